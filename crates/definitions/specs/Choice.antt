@@ -1,0 +1,7 @@
+-- A choice between two values by a test. Assumes nothing.
+use mathlib.Core.Bool.{Bool, true, false}
+
+-- the first value where the test is true, else the second
+abbrev pub pick : {A : Type 0} → Bool → A → A → A
+pick true a b = a
+pick false a b = b

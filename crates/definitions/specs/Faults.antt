@@ -1,0 +1,33 @@
+-- Document 01, "From the image or request": of the faults of one group, "each later group takes the lowest place. On one word the lowest number wins."
+-- Assumes nothing.
+use Prim.Native.Nat.{ℕ}
+use mathlib.Core.Bool.{Bool, true, false, _&&_, _||_, not}
+use mathlib.Core.List.{List, [], _∷_}
+use lib.Dec.{ltb, eqb}
+use Rattle.definitions.specs.Choice.{pick}
+use Rattle.definitions.specs.declared.Fault.{Fault}
+
+abbrev pub fault : ℕ → ℕ → Fault
+fault n p = record { number = n; place = p }
+
+-- number 0 stands for no fault
+abbrev pub noFault : Fault
+noFault = fault 0 0
+
+-- whether the second fault goes before the first: there is one, and it has the lower place, or on one word the lower number
+abbrev pub before : Fault → Fault → Bool
+before a b =
+    not (eqb (b .number) 0)
+    && (eqb (a .number) 0 || (ltb (b .place) (a .place) || eqb (b .place) (a .place) && ltb (b .number) (a .number)))
+
+abbrev pub lower : Fault → Fault → Fault
+lower a b = pick (before a b) b a
+
+-- the lowest of a fault and a list of them
+unfoldable pub least : Fault → List Fault → Fault
+least b [] = b
+least b (f ∷ fs) = least (lower b f) fs
+
+-- the fault of a rule that is broken where the test is true
+abbrev pub faultIf : Bool → ℕ → ℕ → List Fault
+faultIf c n p = pick c (fault n p ∷ []) []

@@ -1,0 +1,15 @@
+pub mod Choice
+pub mod Arithmetic
+pub mod Operators
+pub mod Bytes
+pub mod Image
+pub mod Reading
+pub mod Faults
+pub mod Sorts
+pub mod Labels
+pub mod Checking
+pub mod Encoding
+pub mod Compiling
+pub mod Running
+pub mod Requests
+pub mod Host
