@@ -1,0 +1,53 @@
+//! A second, independent implementation of the secrecy compiler and its
+//! leakage machine, for comparison with the first.
+//!
+//! `second drive` answers request lines from standard input.
+//! `second generate SEED COUNT` prints about COUNT request lines.
+
+mod check;
+mod compile;
+mod damage;
+mod generate;
+mod image;
+mod interpreter;
+mod labels;
+mod limits;
+mod machine;
+mod operators;
+mod program;
+mod protocol;
+mod random;
+mod refusal;
+mod sorts;
+mod words;
+
+use std::io::{self, BufReader, BufWriter, ErrorKind};
+use std::process::ExitCode;
+
+fn main() -> ExitCode {
+    let arguments: Vec<String> = std::env::args().skip(1).collect();
+    let fields: Vec<&str> = arguments.iter().map(String::as_str).collect();
+    let output = BufWriter::with_capacity(1 << 16, io::stdout().lock());
+    let done = match fields[..] {
+        ["drive"] => protocol::drive(BufReader::with_capacity(1 << 16, io::stdin().lock()), output),
+        ["generate", seed, count] => match (seed.parse(), count.parse()) {
+            (Ok(seed), Ok(count)) => generate::generate(seed, count, output),
+            _ => return usage(),
+        },
+        _ => return usage(),
+    };
+    match done {
+        Ok(()) => ExitCode::SUCCESS,
+        // The reader has seen enough.
+        Err(error) if error.kind() == ErrorKind::BrokenPipe => ExitCode::SUCCESS,
+        Err(error) => {
+            eprintln!("second: {error}");
+            ExitCode::FAILURE
+        }
+    }
+}
+
+fn usage() -> ExitCode {
+    eprintln!("usage: second drive | second generate SEED COUNT");
+    ExitCode::from(2)
+}
