@@ -103,3 +103,9 @@ least-found fs f m n z = go (least-low fs noFault f m)
     go (nothing e) = n e
     go (lowerPlace q p) = q z
     go (sameWord q p s) = q z
+
+-- the least over two lists, one after the other
+pub least-append : (b : Fault) (fs gs : List Fault) → least b (fs ++ gs) ≡ least (least b fs) gs
+unfolding least
+least-append b [] gs = refl
+least-append b (f ∷ fs) gs = least-append (lower b f) fs gs
