@@ -186,7 +186,13 @@ impl<'a> Emitter<'a> {
     }
 
     /// The old cell is read back, so that a masked store changes nothing.
-    fn emit_store(&mut self, array: u32, index: &Expression, value: &Expression, scope: Scope) -> u32 {
+    fn emit_store(
+        &mut self,
+        array: u32,
+        index: &Expression,
+        value: &Expression,
+        scope: Scope,
+    ) -> u32 {
         self.output.push(words::statement(words::STORE, array));
         self.expression(index);
         if scope.is_secret() {
@@ -304,7 +310,8 @@ impl<'a> Emitter<'a> {
 
     /// The condition under which a statement of this scope takes effect.
     fn act(&mut self, scope: Scope) {
-        let live = self.deferred.map(|deferred| deferred.live).filter(|_| scope.rc == Label::Secret);
+        let live =
+            self.deferred.map(|deferred| deferred.live).filter(|_| scope.rc == Label::Secret);
         if scope.arm.is_some() && live.is_some() {
             self.output.push(words::word(words::BINARY, Binary::BothTrue as u32));
         }

@@ -7,7 +7,7 @@
 use std::io::{self, Write};
 
 use crate::check::check;
-use crate::damage::{damage, random_word};
+use crate::damage::{bend, damage, random_word};
 use crate::image::Form;
 use crate::limits::limit_image;
 use crate::program::{program, Shape, Slip};
@@ -29,7 +29,7 @@ pub fn generate(seed: u64, count: u64, output: impl Write) -> io::Result<()> {
     generator.output.flush()
 }
 
-const SLIPS: [Slip; 9] = [
+const SLIPS: [Slip; 10] = [
     Slip::Name,
     Slip::Sort,
     Slip::LoopVariable,
@@ -38,6 +38,7 @@ const SLIPS: [Slip; 9] = [
     Slip::Unbounded,
     Slip::OpenCall,
     Slip::SecretBranch,
+    Slip::LoopReturn,
     Slip::Any,
 ];
 
@@ -82,12 +83,13 @@ impl<W: Write> Generator<W> {
 
     fn case(&mut self) -> io::Result<()> {
         match self.random.below(100) {
-            0..=44 => self.source_case(),
-            45..=57 => self.compiled_case(),
-            58..=71 => self.slipped_case(),
-            72..=85 => self.damaged_case(),
-            86..=88 => self.noise_case(),
-            89..=93 => self.limit_case(),
+            0..=39 => self.source_case(),
+            40..=51 => self.compiled_case(),
+            52..=65 => self.slipped_case(),
+            66..=75 => self.bent_case(),
+            76..=85 => self.damaged_case(),
+            86 | 87 => self.noise_case(),
+            88..=93 => self.limit_case(),
             _ => self.changing_session(),
         }
     }
@@ -156,18 +158,39 @@ impl<W: Write> Generator<W> {
 
     /// Programs with a rule or two broken.
     fn slipped_case(&mut self) -> io::Result<()> {
-        let slip = self.random.pick(&SLIPS);
-        // Only the compiled form forbids a secret branch.
-        let compiled = slip == Some(Slip::SecretBranch) || self.random.chance(15);
-        let form = if compiled { Form::Compiled } else { Form::Source };
-        let shape = self.shape(form, slip);
-        let image = program(&mut self.random, shape);
-        let answer = self.send_image("check", &image)?;
-        if self.random.chance(30) {
-            self.send_image("compile 20000", &image)?;
+        for _ in 0..self.random.between(2, 5) {
+            let slip = self.random.pick(&SLIPS);
+            // Only the compiled form forbids a secret branch.
+            let compiled = slip == Some(Slip::SecretBranch) || self.random.chance(15);
+            let form = if compiled { Form::Compiled } else { Form::Source };
+            let shape = self.shape(form, slip);
+            let image = program(&mut self.random, shape);
+            self.doubtful_image(&image)?;
         }
-        if answer == "ok" || self.random.chance(10) {
-            self.session(&image)?;
+        Ok(())
+    }
+
+    /// Programs with a payload or two changed.
+    fn bent_case(&mut self) -> io::Result<()> {
+        for _ in 0..self.random.between(1, 4) {
+            let mut image = self.any_program();
+            for _ in 0..self.random.between(1, 2) {
+                bend(&mut self.random, &mut image);
+            }
+            self.doubtful_image(&image)?;
+        }
+        Ok(())
+    }
+
+    /// An image that may be refused; if it is not, it is mostly used.
+    fn doubtful_image(&mut self, image: &[u32]) -> io::Result<()> {
+        let accepted = self.send_image("check", image)? == "ok";
+        if self.random.chance(25) {
+            self.send_image("compile 20000", image)?;
+        }
+        let percent = if accepted { 50 } else { 5 };
+        if self.random.chance(percent) {
+            self.session(image)?;
         }
         Ok(())
     }
@@ -229,7 +252,10 @@ impl<W: Write> Generator<W> {
     }
 
     fn limit_case(&mut self) -> io::Result<()> {
-        let image = limit_image(&mut self.random);
+        let mut image = limit_image(&mut self.random);
+        if self.random.chance(15) {
+            image = damage(&mut self.random, &image);
+        }
         self.send_image("check", &image)?;
         let compiled = self.compile(&image)?;
         // The longest images are sent no more often than they must be.

@@ -33,19 +33,35 @@ pub enum Form {
 
 impl Form {
     pub fn max_words(self) -> usize {
-        if self == Form::Source { 4096 } else { 16384 }
+        if self == Form::Source {
+            4096
+        } else {
+            16384
+        }
     }
 
     pub fn max_level(self) -> u32 {
-        if self == Form::Source { 32 } else { 40 }
+        if self == Form::Source {
+            32
+        } else {
+            40
+        }
     }
 
     pub fn max_parameters(self) -> u32 {
-        if self == Form::Source { 8 } else { 9 }
+        if self == Form::Source {
+            8
+        } else {
+            9
+        }
     }
 
     pub fn max_locals(self) -> u32 {
-        if self == Form::Source { 64 } else { 246 }
+        if self == Form::Source {
+            64
+        } else {
+            246
+        }
     }
 }
 
@@ -85,7 +101,11 @@ pub struct Procedure {
 impl Procedure {
     /// The label of pc at the start of the body.
     pub fn entry_label(&self) -> Label {
-        if self.guarded { Label::Secret } else { Label::Public }
+        if self.guarded {
+            Label::Secret
+        } else {
+            Label::Public
+        }
     }
 
     pub fn parameter_types(&self) -> &[Type] {
@@ -118,9 +138,18 @@ pub enum Node {
     Constant(u32),
     Boolean(bool),
     Variable(u32),
-    Index { array: u32, index: Box<Expression> },
-    Unary { operator: Unary, operand: Box<Expression> },
-    Binary { operator: Binary, operands: Box<[Expression; 2]> },
+    Index {
+        array: u32,
+        index: Box<Expression>,
+    },
+    Unary {
+        operator: Unary,
+        operand: Box<Expression>,
+    },
+    Binary {
+        operator: Binary,
+        operands: Box<[Expression; 2]>,
+    },
     /// Condition, value if true, value if false.
     Select(Box<[Expression; 3]>),
 }
@@ -366,9 +395,17 @@ impl Reader<'_> {
 }
 
 fn label_of(bit: u32) -> Label {
-    if bit == 0 { Label::Public } else { Label::Secret }
+    if bit == 0 {
+        Label::Public
+    } else {
+        Label::Secret
+    }
 }
 
 fn require(holds: bool, code: Code, place: u32) -> Result<(), Refusal> {
-    if holds { Ok(()) } else { Err(Refusal::at(code, place)) }
+    if holds {
+        Ok(())
+    } else {
+        Err(Refusal::at(code, place))
+    }
 }

@@ -224,13 +224,23 @@ impl<'a> Run<'a> {
                 let condition = self.evaluate(&operands[0], frame)?;
                 let if_true = self.evaluate(&operands[1], frame)?;
                 let if_false = self.evaluate(&operands[2], frame)?;
-                if condition != 0 { if_true } else { if_false }
+                if condition != 0 {
+                    if_true
+                } else {
+                    if_false
+                }
             }
         })
     }
 
     #[inline]
-    fn binary(&mut self, operator: Binary, left: u32, right: u32, place: u32) -> Result<u32, Stopped> {
+    fn binary(
+        &mut self,
+        operator: Binary,
+        left: u32,
+        right: u32,
+        place: u32,
+    ) -> Result<u32, Stopped> {
         Ok(match operator {
             Binary::Add => left.wrapping_add(right),
             Binary::Subtract => left.wrapping_sub(right),

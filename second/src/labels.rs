@@ -19,7 +19,12 @@ pub fn check(image: &Image) -> Result<(), Refusal> {
 
 /// rc after a block begun with this pc and rc. It never looks at a block
 /// twice, so asking once for each for costs at most depth times size.
-pub fn rc_after(image: &Image, procedure: &Procedure, block: &[Statement], context: Context) -> Label {
+pub fn rc_after(
+    image: &Image,
+    procedure: &Procedure,
+    block: &[Statement],
+    context: Context,
+) -> Label {
     let mut rc = context.rc;
     for statement in block {
         // Once secret, rc stays secret.
@@ -53,7 +58,9 @@ pub fn label_of(image: &Image, procedure: &Procedure, expression: &Expression) -
             image.arrays[*array as usize].label.max(operand_label(index))
         }
         Node::Unary { operand, .. } => operand_label(operand),
-        Node::Binary { operands, .. } => operand_label(&operands[0]).max(operand_label(&operands[1])),
+        Node::Binary { operands, .. } => {
+            operand_label(&operands[0]).max(operand_label(&operands[1]))
+        }
         Node::Select(operands) => operand_label(&operands[0])
             .max(operand_label(&operands[1]))
             .max(operand_label(&operands[2])),

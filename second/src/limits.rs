@@ -51,11 +51,7 @@ fn deep_expression(random: &mut Random, form: Form) -> Vec<u32> {
 /// A word whose deepest operand stands at the target level.
 fn push_deep(random: &mut Random, image: &mut Vec<u32>, level: u32, target: u32) {
     if level >= target {
-        return match random.below(3) {
-            0 => image.push(word(words::VARIABLE, 0)),
-            1 => push_constant(image, u32::MAX),
-            _ => image.push(word(words::CONSTANT, 3)),
-        };
+        return push_leaf(random, image);
     }
     match random.below(4) {
         0 => {
@@ -76,6 +72,19 @@ fn push_deep(random: &mut Random, image: &mut Vec<u32>, level: u32, target: u32)
             push_deep(random, image, level + 1, target);
             image.push(word(words::CONSTANT, 0));
         }
+    }
+}
+
+/// A word without operands. Some are faulty, to meet the level's own fault.
+fn push_leaf(random: &mut Random, image: &mut Vec<u32>) {
+    match random.below(16) {
+        0 => image.push(statement(words::RETURN, 0)),
+        1 => image.extend([word(words::RAW_CONSTANT, 0), 5]),
+        2 => image.push(word(words::RAW_CONSTANT, 1)),
+        3 => {}
+        4..=7 => push_constant(image, u32::MAX),
+        8..=11 => image.push(word(words::CONSTANT, 3)),
+        _ => image.push(word(words::VARIABLE, 0)),
     }
 }
 
@@ -171,8 +180,8 @@ fn many_secret_calls(random: &mut Random) -> Vec<u32> {
 
 fn many_cells(random: &mut Random, form: Form) -> Vec<u32> {
     let total = around(random, MAX_CELLS);
-    let one_too_many = random.chance(20) as u32;
-    let arrays = random.between(5, MAX_ARRAYS + one_too_many);
+    let some = random.between(5, MAX_ARRAYS);
+    let arrays = if random.chance(15) { MAX_ARRAYS + 1 } else { some };
     let mut image = vec![header(form, arrays, 1)];
     let mut left = total;
     for after in (0..arrays).rev() {
@@ -232,15 +241,18 @@ fn long_image(random: &mut Random, form: Form) -> Vec<u32> {
 /// A source whose compiled form is about as long as it may be: a deferred
 /// return grows from 2 words to 14, and the last one is padded to fit.
 fn long_output(random: &mut Random) -> Vec<u32> {
-    let returns = random.between(1165, 1172);
-    let padding = random.below(14);
+    let returns = random.between(1168, 1169);
+    let padding = random.between(9, 26);
     let mut image = vec![header(Form::Source, 0, 1), procedure(true, 0, 0), SECRET_WORD];
     image.push(word(words::BLOCK, returns));
     for _ in 1..returns {
         image.extend([statement(words::RETURN, 0), word(words::CONSTANT, 1)]);
     }
     image.push(statement(words::RETURN, 0));
-    image.extend(std::iter::repeat_n(word(words::UNARY, Unary::Complement as u32), padding as usize));
+    image.extend(std::iter::repeat_n(
+        word(words::UNARY, Unary::Complement as u32),
+        padding as usize,
+    ));
     image.push(word(words::CONSTANT, 2));
     image
 }

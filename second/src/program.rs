@@ -36,6 +36,8 @@ pub enum Slip {
     Unbounded,
     OpenCall,
     SecretBranch,
+    /// A return that makes rc secret for the words before it in a for's body.
+    LoopReturn,
     Any,
 }
 
@@ -46,8 +48,8 @@ impl Slip {
         match self {
             Slip::Name | Slip::Sort | Slip::Any => 4,
             Slip::LoopVariable | Slip::Flow => 12,
-            Slip::SecretOperand | Slip::Unbounded | Slip::SecretBranch => 30,
-            Slip::OpenCall => 60,
+            Slip::SecretOperand | Slip::SecretBranch => 30,
+            Slip::Unbounded | Slip::OpenCall | Slip::LoopReturn => 50,
         }
     }
 }
@@ -189,7 +191,11 @@ impl<'r> Writer<'r> {
     }
 
     fn label(&mut self, secret_percent: u32) -> Label {
-        if self.random.chance(secret_percent) { Label::Secret } else { Label::Public }
+        if self.random.chance(secret_percent) {
+            Label::Secret
+        } else {
+            Label::Public
+        }
     }
 
     fn any_type(&mut self) -> Type {

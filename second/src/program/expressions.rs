@@ -20,7 +20,11 @@ impl Writer<'_> {
     }
 
     fn public_label(&mut self) -> Label {
-        if self.slips(Slip::SecretOperand) { Label::Secret } else { Label::Public }
+        if self.slips(Slip::SecretOperand) {
+            Label::Secret
+        } else {
+            Label::Public
+        }
     }
 
     fn node(&mut self, sort: Sort, most: Label, spot: Spot, depth: u32) -> Label {
@@ -88,7 +92,14 @@ impl Writer<'_> {
         }
     }
 
-    fn binary(&mut self, operator: u32, operands: Sort, most: Label, spot: Spot, depth: u32) -> Label {
+    fn binary(
+        &mut self,
+        operator: u32,
+        operands: Sort,
+        most: Label,
+        spot: Spot,
+        depth: u32,
+    ) -> Label {
         self.push(words::BINARY, operator);
         let left = self.node(operands, most, spot, depth);
         left.max(self.shallow(operands, most, spot, depth))
@@ -115,8 +126,12 @@ impl Writer<'_> {
     /// In a secret context a nonzero constant; elsewhere seldom zero.
     fn divisor(&mut self, spot: Spot, depth: u32) -> Label {
         let open = !spot.is_secret() || self.slips(Slip::Unbounded);
-        let choice = if open { self.random.below(10) } else { 0 };
+        let choice = if open { self.random.below(11) } else { 0 };
         match choice {
+            10 => {
+                words::push_constant(&mut self.output, 0);
+                Label::Public
+            }
             9 => {
                 let most = self.public_label();
                 self.shallow(Sort::Word, most, spot, depth)
@@ -138,9 +153,20 @@ impl Writer<'_> {
     fn select(&mut self, sort: Sort, most: Label, spot: Spot, depth: u32) -> Label {
         self.push(words::SELECT, 0);
         let condition = self.shallow(Sort::Boolean, most, spot, depth);
-        let if_true = self.node(sort, most, spot, depth);
+        let if_true = if self.slips(Slip::Name) {
+            self.missing_array_read()
+        } else {
+            self.node(sort, most, spot, depth)
+        };
         let if_false = self.shallow(sort, most, spot, depth);
         condition.max(if_true).max(if_false)
+    }
+
+    /// Still a word, so it also sets the sort of the select around it.
+    fn missing_array_read(&mut self) -> Label {
+        self.push(words::INDEX, self.arrays.len() as u32);
+        words::push_constant(&mut self.output, 0);
+        Label::Public
     }
 
     fn array_read(&mut self, most: Label, spot: Spot) -> Label {
@@ -161,7 +187,8 @@ impl Writer<'_> {
         if self.random.chance(45) && self.loop_index(length) {
             return Label::Public;
         }
-        let open = (!spot.is_secret() || self.slips(Slip::Unbounded)) && spot.level < self.max_level();
+        let open =
+            (!spot.is_secret() || self.slips(Slip::Unbounded)) && spot.level < self.max_level();
         let choice = if open { self.random.below(40) } else { 0 };
         match choice {
             20..=27 => {

@@ -11,6 +11,9 @@ impl Writer<'_> {
         let at = self.output.len();
         self.push(words::BLOCK, 0);
         let (mut count, mut rc) = (0, spot.rc);
+        if self.random.chance(15) && self.early_return(spot.below()) {
+            (count, rc) = (1, Label::Secret);
+        }
         while self.output.len() < self.limit && !self.random.chance(4) {
             let inner = Spot { rc, ..spot.below() };
             if let Some(after) = self.statement(inner) {
@@ -23,6 +26,24 @@ impl Writer<'_> {
             count += 1;
         }
         self.output[at] = words::word(words::BLOCK, count);
+    }
+
+    /// A deferred return right at the start, so that all the rest of an open
+    /// procedure stands under a secret rc and a public pc.
+    fn early_return(&mut self, spot: Spot) -> bool {
+        let declared = |variable: &u32| self.variables[*variable as usize] == Type::SECRET_BOOLEAN;
+        let secret: Vec<u32> = (0..self.variables.len() as u32).filter(declared).collect();
+        let Some(variable) = self.random.pick(&secret) else { return false };
+        if self.shape.form != Form::Source || self.result.label == Label::Public {
+            return false;
+        }
+        self.output.push(words::statement(words::IF, 0));
+        self.push(words::VARIABLE, variable);
+        self.push(words::BLOCK, 1);
+        let arm = Spot { pc: Label::Secret, ..spot.below() };
+        self.give_back(arm.below(), 100);
+        self.push(words::BLOCK, 0);
+        true
     }
 
     /// Writes a block and answers the rc it ends with.
@@ -54,11 +75,11 @@ impl Writer<'_> {
             return self.call(spot);
         }
         match self.random.below(100) {
-            0..=25 => self.assign(spot),
-            26..=42 => self.store(spot),
-            43..=63 => self.branch(spot),
-            64..=77 => self.repeat(spot),
-            78..=92 => self.call(spot),
+            0..=21 => self.assign(spot),
+            22..=37 => self.store(spot),
+            38..=57 => self.branch(spot),
+            58..=71 => self.repeat(spot),
+            72..=87 => self.call(spot),
             _ => self.give_back(spot, 20),
         }
     }
@@ -90,7 +111,11 @@ impl Writer<'_> {
 
     /// The lowest label a target may have, unless by a slip.
     fn least_label(&mut self, least: Label) -> Label {
-        if self.slips(Slip::Flow) { Label::Public } else { least }
+        if self.slips(Slip::Flow) {
+            Label::Public
+        } else {
+            least
+        }
     }
 
     /// A value that flows to a place with this label.
@@ -142,7 +167,8 @@ impl Writer<'_> {
         let mut inner = spot.below();
         if spot.rc == Label::Public {
             inner.may_defer = spot.may_defer && self.random.chance(50);
-            inner.rc = if inner.may_defer { Label::Secret } else { Label::Public };
+            let ready = inner.may_defer && !self.slips(Slip::LoopReturn);
+            inner.rc = if ready { Label::Secret } else { Label::Public };
         }
         let deferred_before = self.deferred;
         self.open_loops.push(OpenLoop { variable, bound });
@@ -156,7 +182,9 @@ impl Writer<'_> {
     /// A variable kept for fors that no for around this word uses.
     fn loop_variable(&mut self) -> Option<u32> {
         if self.slips(Slip::LoopVariable) {
-            return Some(self.random.below(self.variables.len() as u32 + 1));
+            let running = self.open_loops.last().map(|open| open.variable);
+            let any = self.random.below(self.variables.len() as u32 + 1);
+            return running.filter(|_| any % 2 == 0).or(Some(any));
         }
         let open = |variable: &u32| self.open_loops.iter().any(|open| open.variable == *variable);
         let free: Vec<u32> =
@@ -167,16 +195,32 @@ impl Writer<'_> {
     /// Writes both bounds; answers the upper one if both are constants.
     fn bounds(&mut self, spot: Spot) -> Option<u32> {
         let open = !spot.is_secret() || self.slips(Slip::Unbounded);
-        if open && spot.level < self.max_level() && self.random.chance(25) {
-            let from = self.random.below(3);
-            words::push_constant(&mut self.output, from);
-            self.masked(7, spot);
-            return None;
+        if open && spot.level < self.max_level() && self.random.chance(30) {
+            return self.open_bounds(spot);
         }
         let (from, to) = self.constant_bounds();
         words::push_constant(&mut self.output, from);
         words::push_constant(&mut self.output, to);
         Some(to)
+    }
+
+    /// Bounds of which one or both are no constants. The answer is None, but
+    /// by a slip a constant upper bound counts although the lower is open.
+    fn open_bounds(&mut self, spot: Spot) -> Option<u32> {
+        let choices = [(true, true), (true, false), (true, false), (false, true)];
+        let (from_open, to_open) = self.random.pick(&choices).unwrap_or((true, true));
+        if from_open {
+            self.masked(1, spot);
+        } else {
+            words::push_constant(&mut self.output, 0);
+        }
+        if to_open {
+            self.masked(7, spot);
+            return None;
+        }
+        let to = self.constant_bounds().1;
+        words::push_constant(&mut self.output, to);
+        self.slips(Slip::Unbounded).then_some(to)
     }
 
     /// Mostly a few passes, and often just the length of an array.
@@ -187,7 +231,8 @@ impl Writer<'_> {
             1 => (self.random.below(4), self.random.word()),
             2 => (self.random.word(), self.random.word()),
             3..=10 => {
-                let to = self.random.pick(&lengths).unwrap_or(3);
+                let over = (self.random.chance(10) || self.slips(Slip::Unbounded)) as u32;
+                let to = self.random.pick(&lengths).unwrap_or(3) + over;
                 (to.saturating_sub(self.random.below(4)), to)
             }
             _ => (self.random.below(3), self.random.below(6)),
@@ -204,7 +249,8 @@ impl Writer<'_> {
 
     fn call(&mut self, spot: Spot) -> Option<Label> {
         let needs_guard = spot.is_secret() && !self.slips(Slip::OpenCall);
-        let callable = |procedure: &u32| !needs_guard || self.signatures[*procedure as usize].guarded;
+        let callable =
+            |procedure: &u32| !needs_guard || self.signatures[*procedure as usize].guarded;
         let fitting: Vec<u32> = (0..self.signatures.len() as u32).filter(callable).collect();
         let procedure = self.random.pick(&fitting)?;
         let signature = self.signatures[procedure as usize].clone();
