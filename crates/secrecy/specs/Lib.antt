@@ -1,0 +1,15 @@
+pub mod Sessions
+pub mod Faultless
+pub mod Rules
+pub mod Agreement
+pub mod Related
+pub mod Expressions
+pub mod Statements
+pub mod Procedures
+pub mod Lending
+pub mod Usable
+pub mod Serving
+pub mod Calling
+pub mod Turns
+pub mod Secrecy
+pub mod Example

@@ -1,0 +1,1 @@
+// Laws only: the secrecy theorem over the definitions stands in specs/.
