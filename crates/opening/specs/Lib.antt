@@ -1,0 +1,11 @@
+pub mod Parses
+pub mod Words
+pub mod Expressions
+pub mod Statements
+pub mod Places
+pub mod Levels
+pub mod Later
+pub mod Parameters
+pub mod WordLists
+pub mod Procedures
+pub mod Images

@@ -1,0 +1,5 @@
+pub mod LeafRules
+pub mod ExpressionRules
+pub mod StatementRules
+pub mod BlockRules
+pub mod MarkRules
