@@ -1,13 +1,13 @@
 -- An expression that was read, opened: one law a kind says what its parts are, where they were read, and what tree they make.
 -- A pass over words knows of an expression no more than this. Assumes nothing.
 use mathlib.Core.Path.{_≡_, refl, sym, ap, _∙_}
-use mathlib.Core.Bool.{Bool, true, false}
+use mathlib.Core.Bool.{true}
 use mathlib.Core.List.{List, [], _∷_}
-use Prim.Native.Nat.{ℕ, zero, suc, _+_, _-_, _/_, _%_, _≤_, _<_}
+use Prim.Native.Nat.{ℕ, zero, suc, _+_, _-_, _≤_, _<_}
 use native.Mathlib.Omega.{arith}
 use lib.ListN.{length, getD}
 use Rattle.definitions.specs.Image.{kindOf, payloadOf, expressionWord, rawWord, Expression, constant, boolean, variable, cell, unary, binary, select}
-use Rattle.definitions.specs.Reading.{Parse, got, refused, Reader, andThen, onWord, expressionAt, readExpression, readArguments}
+use Rattle.definitions.specs.Reading.{got, refused, Reader, onWord, expressionAt, readExpression, readArguments}
 use Rattle.opening.specs.Parses.{ok, false-true, on-ok, open-one, open-two, open-three}
 use Rattle.opening.specs.Words.{select-kind}
 

@@ -1,15 +1,15 @@
 -- An image that was read, opened: its header, where its array words stand, and how its procedures read. Assumes nothing.
 use mathlib.Core.Path.{_≡_, refl, sym, ap, _∙_}
 use mathlib.Core.Bool.{Bool, true, false, _&&_}
-use mathlib.Core.List.{List, [], _∷_}
-use Prim.Native.Nat.{ℕ, zero, suc, _+_, _-_, _/_, _%_, _≤_, _<_}
+use mathlib.Core.List.{List}
+use Prim.Native.Nat.{ℕ, _+_, _≤_}
 use native.Mathlib.Omega.{arith}
 use borrow.Author.Tests.{leb-true, eqb-true, eqb-false}
 use lib.Dec.{leb, eqb}
 use lib.ListN.{length, getD, replicate}
 use Rattle.definitions.specs.Choice.{pick}
 use Rattle.definitions.specs.Image.{headerWord, formOf, arraysOf, proceduresOf, largestImage, Procedure, Image}
-use Rattle.definitions.specs.Reading.{Parse, got, refused, andThen, readProcedures, readRest, readImage}
+use Rattle.definitions.specs.Reading.{got, refused, readProcedures, readRest, readImage}
 use Rattle.opening.specs.Words.{and-left, and-right}
 use Rattle.opening.specs.Places.{Holds, held, none, holds-got, holds-then, holds-self}
 use Rattle.opening.specs.WordLists.{ArrayWords, arrays-hold}
@@ -36,19 +36,19 @@ module _ (whole : Bool) (image : List ℕ) where
   whole-image ws n ps m s h w l a r e =
       let c = a .words .count in
       let b : n ≡ 1 + length ws = a .words .after ∙ ap (λ z. 1 + z) (sym c) in
-      record {
-        some = s;
-        header = h;
-        isWhole = w;
-        short = l;
-        form = refl;
-        arrays = rw b at a;
-        procedures =
+      record
+        { some = s
+        ; header = h
+        ; isWhole = w
+        ; short = l
+        ; form = refl
+        ; arrays = rw b at a
+        ; procedures =
             ap (λ z. readProcedures (proceduresOf (getD image 0 0)) (formOf (getD image 0 0)) (replicate 32 0) 0 image z) (sym b) ∙ r
-            ∙ ap (λ z. got ps z) e;
-        count = procedures-count (proceduresOf (getD image 0 0)) (formOf (getD image 0 0)) (replicate 32 0) 0 image n ps m r;
-        ends = e;
-      }
+            ∙ ap (λ z. got ps z) e
+        ; count = procedures-count (proceduresOf (getD image 0 0)) (formOf (getD image 0 0)) (replicate 32 0) 0 image n ps m r
+        ; ends = e
+        }
 
   rest-holds : 1 ≤ length image → headerWord (getD image 0 0) ≡ true → whole ≡ true → length image ≤ largestImage (formOf (getD image 0 0))
       → Holds (λ tree next. ImageWords whole image tree next) (readRest (getD image 0 0) image)

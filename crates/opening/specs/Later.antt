@@ -1,18 +1,18 @@
 -- The number of the procedure only limits: what is read in a procedure's body is read the same in every later one's, as far as the
 -- numbers of parameters agree. So the end of a block does not depend on whose body it was read as. Assumes nothing.
-use mathlib.Core.Path.{_≡_, refl, sym, ap, _∙_}
+use mathlib.Core.Path.{_≡_, refl}
 use mathlib.Core.Bool.{Bool, true, false, _&&_, _||_}
 use mathlib.Core.List.{List}
-use Prim.Native.Nat.{ℕ, zero, suc, _+_, _-_, _/_, _%_, _≤_, _<_}
+use Prim.Native.Nat.{ℕ, zero, suc, _+_, _≤_}
 use native.Mathlib.Omega.{arith}
 use borrow.Author.Tests.{ltb-true, lt-ltb}
 use lib.Dec.{leb, ltb, eqb}
 use lib.ListN.{length, getD}
 use Rattle.definitions.specs.Choice.{pick}
-use Rattle.definitions.specs.Image.{kindOf, payloadOf, blockWord, opOf, targetOf, calledOf, statementWord, Expression, Statement, Block}
-use Rattle.definitions.specs.Reading.{Parse, got, refused, Reader, onWord, statementAt, readExpression, readStatement, readStatements, readBlock}
-use Rattle.opening.specs.Parses.{false-true, got-same}
-use Rattle.opening.specs.Levels.{Grow, same, less, GrowAll, grow-got, grow-op, grow-statements, grow-refl, grow-expression, grow-block, Agree}
+use Rattle.definitions.specs.Image.{kindOf, payloadOf, blockWord, opOf, targetOf, calledOf, statementWord, Block}
+use Rattle.definitions.specs.Reading.{Parse, got, refused, onWord, statementAt, readExpression, readStatement, readStatements, readBlock}
+use Rattle.opening.specs.Parses.{got-same}
+use Rattle.opening.specs.Levels.{Grow, less, GrowAll, grow-got, grow-op, grow-statements, grow-refl, grow-block}
 
 imply-and : (a b c : Bool) → (b ≡ true → c ≡ true) → a && b ≡ true → a && c ≡ true
 imply-and true b c k h = k h
@@ -51,7 +51,6 @@ word-wider image at good wide f g q k = ends (leb (length image) at) (good (getD
 module _ (params : List ℕ) (me me′ : ℕ) (later : me ≤ me′) (image : List ℕ) where
   mutual
     unfolding readStatement readBlock
-
     pub later-statement : (l : ℕ) → GrowAll (λ a. readStatement l params me image a) (λ a. readStatement l params me′ image a)
     later-statement zero at =
         word-wider image at (λ w. statementWord me w) (λ w. statementWord me′ w) (λ w. refused 5 at) (λ w. refused 5 at)

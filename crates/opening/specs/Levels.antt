@@ -1,15 +1,15 @@
 -- The level only limits: what is read at a level is read the same at every higher one. So the end of a part does not depend on the level.
 -- The numbers of parameters count only below the procedure whose body is read. Assumes nothing.
-use mathlib.Core.Path.{_≡_, refl, sym, ap, subst, _∙_}
+use mathlib.Core.Path.{_≡_, refl, ap}
 use mathlib.Core.Bool.{Bool, true, false}
-use mathlib.Core.List.{List, [], _∷_}
-use Prim.Native.Nat.{ℕ, zero, suc, _+_, _-_, _/_, _%_, _≤_, _<_}
+use mathlib.Core.List.{List}
+use Prim.Native.Nat.{ℕ, zero, suc, _+_, _≤_, _<_}
 use native.Mathlib.Omega.{arith}
 use borrow.Author.Tests.{eqb-false}
 use lib.Dec.{leb, eqb}
 use lib.ListN.{length, getD}
 use Rattle.definitions.specs.Choice.{pick}
-use Rattle.definitions.specs.Image.{kindOf, payloadOf, blockWord, opOf, targetOf, calledOf, resultOf, statementWord, expressionWord, rawWord, Expression, Statement, Block}
+use Rattle.definitions.specs.Image.{kindOf, payloadOf, blockWord, opOf, targetOf, calledOf, resultOf, statementWord, expressionWord, Expression, Statement, Block}
 use Rattle.definitions.specs.Reading.{Parse, got, refused, Reader, andThen, onWord, expressionAt, statementAt, readExpression, readArguments, readStatement, readStatements, readBlock}
 use Rattle.opening.specs.Parses.{got-same, false-true, ok}
 use Rattle.opening.specs.Words.{call-op, call-limit}
@@ -122,7 +122,6 @@ module _ (params params′ : List ℕ) (me : ℕ) (agree : Agree me params param
 
   mutual
     unfolding readStatement readBlock
-
     pub grow-statement : (l l′ : ℕ) → l ≤ l′ → GrowAll (λ a. readStatement l params me image a) (λ a. readStatement l′ params′ me image a)
     grow-statement zero zero h at = grow-refl (onWord image at (λ w. statementWord me w) (λ w. refused 5 at))
     grow-statement zero (suc l′) h at =

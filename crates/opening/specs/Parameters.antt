@@ -1,14 +1,14 @@
 -- A body names only procedures before its own, so its reading, refusals too, rests on the numbers of parameters of those alone.
 -- Assumes nothing.
-use mathlib.Core.Path.{_≡_, refl, sym, ap, _∙_}
+use mathlib.Core.Path.{_≡_, refl, ap, _∙_}
 use mathlib.Core.Bool.{Bool, true, false}
-use mathlib.Core.List.{List, [], _∷_}
-use Prim.Native.Nat.{ℕ, zero, suc, _+_, _-_, _/_, _%_, _≤_, _<_}
+use mathlib.Core.List.{List}
+use Prim.Native.Nat.{ℕ, zero, suc, _+_, _<_}
 use borrow.Author.Tests.{eqb-false}
 use lib.Dec.{leb, eqb}
 use lib.ListN.{length, getD}
 use Rattle.definitions.specs.Choice.{pick}
-use Rattle.definitions.specs.Image.{payloadOf, blockWord, opOf, targetOf, calledOf, resultOf, statementWord, Expression, Statement, assign, store, conditional, loop, return, call, Block}
+use Rattle.definitions.specs.Image.{payloadOf, blockWord, opOf, targetOf, calledOf, resultOf, statementWord, Expression, Statement, call, Block}
 use Rattle.definitions.specs.Reading.{Parse, got, refused, Reader, andThen, onWord, statementAt, readExpression, readArguments, readStatement, readStatements, readBlock}
 use Rattle.opening.specs.Words.{call-op, call-limit}
 use Rattle.opening.specs.Levels.{Agree}
@@ -53,7 +53,6 @@ module _ (params params′ : List ℕ) (me : ℕ) (agree : Agree me params param
 
   mutual
     unfolding readStatement readBlock
-
     pub statement-params : (l : ℕ) (at : ℕ) → readStatement l params me image at ≡ readStatement l params′ me image at
     statement-params zero at = refl
     statement-params (suc l) at =

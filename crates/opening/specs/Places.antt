@@ -1,17 +1,16 @@
 -- Where parts stand: a part that was read ends behind its first word and within the image, and an expression's own place is where it was read.
 -- Assumes nothing.
-use mathlib.Core.Path.{_≡_, refl, sym, ap, subst, _∙_}
+use mathlib.Core.Path.{_≡_, refl, subst}
 use mathlib.Core.Bool.{Bool, true, false}
-use mathlib.Core.List.{List, [], _∷_}
-use Prim.Native.Nat.{ℕ, zero, suc, _+_, _-_, _/_, _%_, _≤_, _<_}
+use mathlib.Core.List.{List}
+use Prim.Native.Nat.{ℕ, zero, suc, _+_, _≤_, _<_}
 use native.Mathlib.Omega.{arith}
 use borrow.Author.Tests.{leb-false}
 use lib.Dec.{leb, eqb}
 use lib.ListN.{length, getD}
 use Rattle.definitions.specs.Choice.{pick}
-use Rattle.definitions.specs.Image.{kindOf, payloadOf, blockWord, opOf, targetOf, calledOf, resultOf, statementWord, expressionWord, rawWord, Expression, constant, boolean, variable, cell, unary, binary, select, placeOf, Statement, assign, store, conditional, loop, return, call, Block, done, step}
+use Rattle.definitions.specs.Image.{kindOf, payloadOf, blockWord, opOf, targetOf, calledOf, statementWord, expressionWord, rawWord, Expression, constant, placeOf, Statement, Block}
 use Rattle.definitions.specs.Reading.{Parse, got, refused, Reader, andThen, onWord, expressionAt, statementAt, readExpression, readArguments, readStatement, readStatements, readBlock}
-use Rattle.opening.specs.Parses.{ok, got-ok, endOf, end-of}
 
 -- the part, if one was read, is as P says
 pub data Holds {A : Type 0} (P : A → ℕ → Type 0) : Parse A → Type 0 where
@@ -122,7 +121,6 @@ module _ (image : List ℕ) where
   module _ (params : List ℕ) (me : ℕ) where
     mutual
       unfolding readStatement readBlock
-
       pub statement-holds : (l : ℕ) (at : ℕ) → Holds (Ends image at) (readStatement l params me image at)
       statement-holds zero at = holds-word image at (λ w. statementWord me w) (λ w. refused 5 at) (λ h. none)
       statement-holds (suc l) at =

@@ -1,13 +1,13 @@
 -- A procedure that was read, opened: where its words stand in the image, and how its body reads. Assumes nothing.
 use mathlib.Core.Path.{_≡_, refl, sym, ap, _∙_}
-use mathlib.Core.Bool.{Bool, true, false, _&&_}
+use mathlib.Core.Bool.{true}
 use mathlib.Core.List.{List, [], _∷_}
-use Prim.Native.Nat.{ℕ, zero, suc, _+_, _-_, _/_, _%_, _≤_, _<_}
+use Prim.Native.Nat.{ℕ, zero, suc, _+_, _≤_, _<_}
 use native.Mathlib.Omega.{arith}
 use lib.ListN.{length, getD, set}
 use Rattle.definitions.specs.Image.{modeOf, parametersOf, localsOf, procedureWord, typeWord, largestLevel, Block, Procedure}
-use Rattle.definitions.specs.Reading.{Parse, got, refused, Reader, andThen, onWord, readTypes, readBlock, readProcedure, readProcedures}
-use Rattle.opening.specs.Places.{Holds, held, none, holds-got, holds-then, holds-self, holds-tested, block-ends}
+use Rattle.definitions.specs.Reading.{Parse, got, Reader, andThen, onWord, readTypes, readBlock, readProcedure, readProcedures}
+use Rattle.opening.specs.Places.{Holds, held, holds-got, holds-then, holds-self, holds-tested, block-ends}
 use Rattle.opening.specs.Levels.{Agree}
 use Rattle.opening.specs.Parameters.{block-params}
 use Rattle.opening.specs.WordLists.{Words, types-hold}
@@ -36,17 +36,17 @@ module _ (form : ℕ) (params : List ℕ) (me : ℕ) (image : List ℕ) (at : �
       let e : n ≡ at + 1 + 1 + length ts = w .after ∙ ap (λ z. at + 1 + 1 + z) (sym c) in
       let (more, fits) = block-ends (largestLevel form) params me image n m b r in
       let a = w .after in
-      record {
-        place = refl;
-        mode = refl;
-        parameters = refl;
-        result = refl;
-        types = rw e at w;
-        body = ap (λ z. readBlock (largestLevel form) params me image z) (sym e) ∙ r;
-        tested = g;
-        begins = h;
-        ends = (omega arith, fits);
-      }
+      record
+        { place = refl
+        ; mode = refl
+        ; parameters = refl
+        ; result = refl
+        ; types = rw e at w
+        ; body = ap (λ z. readBlock (largestLevel form) params me image z) (sym e) ∙ r
+        ; tested = g
+        ; begins = h
+        ; ends = (omega arith, fits)
+        }
 
   pub procedure-holds : Holds (λ p next. ProcedureWords form params me image at p next) (readProcedure form params me image at)
   unfolding readProcedure

@@ -1,16 +1,14 @@
 -- Type words and array words that were read: they are the image's words from a place on. Assumes nothing.
-use mathlib.Core.Path.{_≡_, refl, sym, ap, _∙_}
-use mathlib.Core.Bool.{Bool, true, false, _&&_}
+use mathlib.Core.Path.{_≡_, refl, _∙_}
+use mathlib.Core.Bool.{true}
 use mathlib.Core.List.{List, [], _∷_}
-use Prim.Native.Nat.{ℕ, zero, suc, _+_, _-_, _/_, _%_, _≤_, _<_}
+use Prim.Native.Nat.{ℕ, zero, suc, _+_, _≤_, _<_}
 use native.Mathlib.Omega.{arith}
-use borrow.Author.Tests.{leb-true}
-use lib.Dec.{leb, ltb, eqb}
 use lib.ListN.{length, getD}
-use Rattle.definitions.specs.Image.{kindOf, payloadOf, typeWord, arrayWord, arrayLength, cellCount}
-use Rattle.definitions.specs.Reading.{Parse, got, refused, andThen, onWord, readTypes, readArrays}
-use Rattle.opening.specs.Words.{and-left, and-right}
-use Rattle.opening.specs.Places.{Holds, held, none, holds-got, holds-then, holds-tested}
+use Rattle.definitions.specs.Image.{typeWord, arrayWord, arrayLength, cellCount}
+use Rattle.definitions.specs.Reading.{got, andThen, readTypes, readArrays}
+use Rattle.opening.specs.Words.{array-limits}
+use Rattle.opening.specs.Places.{Holds, held, holds-got, holds-then, holds-tested}
 
 -- a number of words of the image from a place on
 pub record Words (image : List ℕ) (at n : ℕ) (ws : List ℕ) (next : ℕ) : Type 0 where
@@ -54,23 +52,12 @@ pub record ArrayWords (image : List ℕ) (cells at n : ℕ) (ws : List ℕ) (nex
   pub most : cells ≤ 1024 → cells + cellCount ws ≤ 1024
   pub lengths : (i : ℕ) → i < n → (1 ≤ arrayLength (getD ws i 0)) × (arrayLength (getD ws i 0) ≤ 256)
 
-array-limits : (cells w : ℕ) → arrayWord cells w ≡ true → (1 ≤ arrayLength w) × (arrayLength w ≤ 256) × (cells + arrayLength w ≤ 1024)
-unfolding arrayWord
-array-limits cells w h =
-    let a = and-right (ltb (payloadOf w / 65536) 2) (leb 1 (arrayLength w) && (leb (arrayLength w) 256 && leb (cells + arrayLength w) 1024))
-    (and-right (eqb (kindOf w) 2) (ltb (payloadOf w / 65536) 2 && (leb 1 (arrayLength w) && (leb (arrayLength w) 256 && leb (cells + arrayLength w) 1024))) h) in
-    let b = and-right (leb 1 (arrayLength w)) (leb (arrayLength w) 256 && leb (cells + arrayLength w) 1024) a in (
-      leb-true 1 (arrayLength w) (and-left (leb 1 (arrayLength w)) (leb (arrayLength w) 256 && leb (cells + arrayLength w) 1024) a),
-      leb-true (arrayLength w) 256 (and-left (leb (arrayLength w) 256) (leb (cells + arrayLength w) 1024) b),
-      leb-true (cells + arrayLength w) 1024 (and-right (leb (arrayLength w) 256) (leb (cells + arrayLength w) 1024) b),
-    )
-
 more-arrays : (image : List ℕ) (cells at n : ℕ) (ws : List ℕ) (next : ℕ) → at < length image → arrayWord cells (getD image at 0) ≡ true
     → ArrayWords image (cells + arrayLength (getD image at 0)) (at + 1) n ws next
     → ArrayWords image cells at (suc n) (getD image at 0 ∷ ws) next
 unfolding cellCount
 more-arrays image cells at n ws next h g a =
-    let (one, short, all) = array-limits cells (getD image at 0) g in
+    let (kind, label, one, short, all) = array-limits cells (getD image at 0) g in
     let rest = a .most all in
     record { words = more-words image at n ws next h (a .words); most = λ _. omega arith; lengths = each one short }
   where

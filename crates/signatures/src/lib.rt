@@ -23,14 +23,14 @@ pub fn word_at(words: &[u32], i: usize) -> u32
 }
 
 // The place of procedure `f`.
-fn place_of(places: &[u32], f: usize) -> usize
+pub fn place_of(places: &[u32], f: usize) -> usize
     ensures { λ r. ⌜ (r ≡ getD (now (places .entry)) f 0) × (r < 4294967296) ⌝ }
 {
     wide(word_at(places, f))
 }
 
 // The number of variables that a procedure's word names.
-fn variables(w: u32) -> usize
+pub fn variables(w: u32) -> usize
     ensures { λ r. ⌜ r ≡ parametersOf w + localsOf w ⌝ }
 {
     wide(w % 268435456 / 256 % 256 + w % 268435456 % 256)

@@ -1,0 +1,17 @@
+-- `reader::expressions::read_raw`: the raw constant is tested where its word stands.
+-- Assumes nothing.
+use Rattle.reader.proofs.ExpressionRules.{raw·rules}
+use borrow.Author.Needs.{needs}
+use Rattle.reader.proofs.expressions.read_raw.Statement.{statement}
+use Rattle.reader.proofs.expressions.read_raw.Tie as tie
+
+pub read-raw-spec : {M : Type 1} → statement M
+read-raw-spec = tie.close (tie.spec
+    (λ c κs. search needs) -- word-requires
+    (λ c. search needs) -- enum-known-r
+    (λ c. search needs) -- enum-told
+    (λ c. search (raw·rules, needs)) -- returns
+    (λ c κs. search needs) -- raw-word-requires
+    (λ c. search (raw·rules, needs)) -- returns-2
+    (λ c. search (raw·rules, needs)) -- returns-3
+    )

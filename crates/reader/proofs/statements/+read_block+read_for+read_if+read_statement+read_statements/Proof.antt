@@ -1,0 +1,189 @@
+-- `reader::statements`, the cycle of `read_block`, `read_for`, `read_if`, `read_statement`, `read_statements`: one law for each way of returning. At a level a block comes before a statement, statements in a row and what
+-- follows an if or a for; each of these goes to blocks one level below.
+-- Assumes nothing.
+use lib.ListN.{length}
+use Prim.Native.Nat.{_≤_, _-_, _+_, _*_, ℕ, _<_}
+use mathlib.Core.Path.{_≡_}
+use Rattle.reader.specs.Answers.{answer, readStatementsAt}
+use Rattle.reader.specs.Tables.{Sound}
+use Rattle.reader.proofs.StatementRules.{if·rules, for·rules, statement·rules, statements·rules, block·rules}
+use borrow.Author.Needs.{needs}
+use borrow.Fn.Kinds.{In}
+use borrow.Fn.PlainCycle.{Measures, is, falls, and}
+use Rattle.reader.proofs.statements.read_block.Reads as read-block
+use Rattle.reader.proofs.statements.read_block.Kinds as read-block-kinds
+use Rattle.reader.proofs.statements.+read_block+read_for+read_if+read_statement+read_statements.Lts-read_block as read-block-lts
+use Rattle.reader.proofs.statements.read_for.Reads as read-for
+use Rattle.reader.proofs.statements.read_for.Kinds as read-for-kinds
+use Rattle.reader.proofs.statements.+read_block+read_for+read_if+read_statement+read_statements.Lts-read_for as read-for-lts
+use Rattle.reader.proofs.statements.read_if.Reads as read-if
+use Rattle.reader.proofs.statements.read_if.Kinds as read-if-kinds
+use Rattle.reader.proofs.statements.+read_block+read_for+read_if+read_statement+read_statements.Lts-read_if as read-if-lts
+use Rattle.reader.proofs.statements.read_statement.Reads as read-statement
+use Rattle.reader.proofs.statements.read_statement.Kinds as read-statement-kinds
+use Rattle.reader.proofs.statements.+read_block+read_for+read_if+read_statement+read_statements.Lts-read_statement as read-statement-lts
+use Rattle.reader.proofs.statements.read_statements.Reads as read-statements
+use Rattle.reader.proofs.statements.read_statements.Kinds as read-statements-kinds
+use Rattle.reader.proofs.statements.+read_block+read_for+read_if+read_statement+read_statements.Lts-read_statements as read-statements-lts
+use Rattle.reader.proofs.expressions.read_expression.Reads as read-expression-reads
+use Rattle.reader.proofs.tables.mark.Reads as mark-reads
+use Rattle.reader.proofs.statements.read_simple.Reads as read-simple-reads
+use Rattle.reader.proofs.words.block_word.Reads as block-word-reads
+use Rattle.reader.proofs.words.statement_word.Reads as statement-word-reads
+use Rattle.reader.proofs.words.word.Reads as word-reads
+use Rattle.reader.proofs.statements.+read_block+read_for+read_if+read_statement+read_statements.{statement}
+use Rattle.reader.proofs.statements.+read_block+read_for+read_if+read_statement+read_statements.Tie.{close}
+
+abbrev μ-read-block : Measures 3 read-block-kinds.ps ℕ
+μ-read-block κs a = 4 * a .1 .1 .1 .1 .1 .0
+
+abbrev μ-read-for : Measures 3 read-for-kinds.ps ℕ
+μ-read-for κs a = 4 * a .1 .1 .1 .1 .1 .1 .0 + 3
+
+abbrev μ-read-if : Measures 3 read-if-kinds.ps ℕ
+μ-read-if κs a = 4 * a .1 .1 .1 .1 .1 .1 .0 + 3
+
+abbrev μ-read-statement : Measures 3 read-statement-kinds.ps ℕ
+μ-read-statement κs a = 4 * a .1 .1 .1 .1 .1 .0 + 1
+
+abbrev μ-read-statements : Measures 3 read-statements-kinds.ps ℕ
+μ-read-statements κs a = 4 * a .1 .1 .1 .1 .1 .1 .0 + 2
+
+abbrev read-block-at : ℕ → In 3 read-block-kinds.ps
+read-block-at t = and 3 read-block-kinds.ps (is 3 read-block-kinds.ps μ-read-block t) read-block.Pre
+
+abbrev read-block-below : ℕ → In 3 read-block-kinds.ps
+read-block-below t = and 3 read-block-kinds.ps (falls 3 read-block-kinds.ps _<_ μ-read-block t) read-block.Pre
+
+abbrev read-for-at : ℕ → In 3 read-for-kinds.ps
+read-for-at t = and 3 read-for-kinds.ps (is 3 read-for-kinds.ps μ-read-for t) read-for.Pre
+
+abbrev read-for-below : ℕ → In 3 read-for-kinds.ps
+read-for-below t = and 3 read-for-kinds.ps (falls 3 read-for-kinds.ps _<_ μ-read-for t) read-for.Pre
+
+abbrev read-if-at : ℕ → In 3 read-if-kinds.ps
+read-if-at t = and 3 read-if-kinds.ps (is 3 read-if-kinds.ps μ-read-if t) read-if.Pre
+
+abbrev read-if-below : ℕ → In 3 read-if-kinds.ps
+read-if-below t = and 3 read-if-kinds.ps (falls 3 read-if-kinds.ps _<_ μ-read-if t) read-if.Pre
+
+abbrev read-statement-at : ℕ → In 3 read-statement-kinds.ps
+read-statement-at t = and 3 read-statement-kinds.ps (is 3 read-statement-kinds.ps μ-read-statement t) read-statement.Pre
+
+abbrev read-statement-below : ℕ → In 3 read-statement-kinds.ps
+read-statement-below t = and 3 read-statement-kinds.ps (falls 3 read-statement-kinds.ps _<_ μ-read-statement t) read-statement.Pre
+
+abbrev read-statements-at : ℕ → In 3 read-statements-kinds.ps
+read-statements-at t = and 3 read-statements-kinds.ps (is 3 read-statements-kinds.ps μ-read-statements t) read-statements.Pre
+
+abbrev read-statements-below : ℕ → In 3 read-statements-kinds.ps
+read-statements-below t = and 3 read-statements-kinds.ps (falls 3 read-statements-kinds.ps _<_ μ-read-statements t) read-statements.Pre
+
+abbrev read-statements-Inv-loop : read-statements-lts.InvT-loop
+read-statements-Inv-loop image params me ends₀ count at level k₀ a₀ ends k a = (k ≤ count) × (length ends ≡ length ends₀) × (Sound image params me ends) × (answer 0 (readStatementsAt (count - k) level params me image a) ≡ answer 0 (readStatementsAt count level params me image at))
+
+abbrev read-statements-μ-loop : read-statements-lts.MeasureT-loop
+read-statements-μ-loop image params me ends₀ count at level k₀ a₀ ends k a = count - k
+
+abbrev read-block-callees : ℕ → read-block-lts.Claims
+read-block-callees t =
+    (word-reads.Asked, word-reads.Learnt, block-word-reads.Asked, block-word-reads.Learnt, read-statements-below t, read-statements.Post, mark-reads.Asked, mark-reads.Learnt)
+
+abbrev read-for-callees : ℕ → read-for-lts.Claims
+read-for-callees t =
+    (read-expression-reads.Asked, read-expression-reads.Learnt, read-block-below t, read-block.Post)
+
+abbrev read-if-callees : ℕ → read-if-lts.Claims
+read-if-callees t =
+    (read-expression-reads.Asked, read-expression-reads.Learnt, read-block-below t, read-block.Post)
+
+abbrev read-statement-callees : ℕ → read-statement-lts.Claims
+read-statement-callees t =
+    (word-reads.Asked, word-reads.Learnt, statement-word-reads.Asked, statement-word-reads.Learnt, read-if-below t, read-if.Post, read-for-below t, read-for.Post, read-simple-reads.Asked, read-simple-reads.Learnt)
+
+abbrev read-statements-callees : ℕ → read-statements-lts.Claims
+read-statements-callees t =
+    (read-statement-below t, read-statement.Post)
+
+pub +read-block+read-for+read-if+read-statement+read-statements-spec : {M : Type 1} → statement M
++read-block+read-for+read-if+read-statement+read-statements-spec = close μ-read-block μ-read-for μ-read-if μ-read-statement μ-read-statements (λ t. read-block-lts.spec (read-block-callees t) (read-block-at t) read-block.Post
+    (λ c κs. search needs) -- word-requires
+    (λ c. search needs) -- enum-known-r
+    (λ c. search needs) -- enum-told
+    (λ c. search (block·rules, needs)) -- returns
+    (λ c κs. search needs) -- block-word-requires
+    (λ c. search (block·rules, needs)) -- returns-2
+    (λ c. search (block·rules, needs)) -- returns-3
+    (λ c. search needs) -- sub-read-statements
+    (λ c κs. search needs) -- read-statements-requires
+    (λ c. search needs) -- enum-known-s
+    (λ c. search needs) -- enum-told-2
+    (λ c. search needs) -- same-length
+    (λ c. search (block·rules, needs)) -- returns-4
+    (λ c κs. search needs) -- mark-requires
+    (λ c. search needs) -- same-length-2
+    (λ c. search (block·rules, needs)) -- returns-5
+    ) (λ t. read-for-lts.spec (read-for-callees t) (read-for-at t) read-for.Post
+    (λ c κs. search needs) -- read-expression-requires
+    (λ c. search needs) -- enum-known-r1
+    (λ c. search needs) -- enum-told
+    (λ c. search (for·rules, needs)) -- returns
+    (λ c κs. search needs) -- read-expression-requires-2
+    (λ c. search needs) -- enum-known-r2
+    (λ c. search needs) -- enum-told-2
+    (λ c. search (for·rules, needs)) -- returns-2
+    (λ c κs. search needs) -- read-block-requires
+    (λ c. search needs) -- enum-known-r3
+    (λ c. search needs) -- enum-told-3
+    (λ c. search needs) -- same-length
+    (λ c. search (for·rules, needs)) -- returns-3
+    (λ c. search needs) -- same-length-2
+    (λ c. search (for·rules, needs)) -- returns-4
+    ) (λ t. read-if-lts.spec (read-if-callees t) (read-if-at t) read-if.Post
+    (λ c κs. search needs) -- read-expression-requires
+    (λ c. search needs) -- enum-known-r1
+    (λ c. search needs) -- enum-told
+    (λ c. search (if·rules, needs)) -- returns
+    (λ c κs. search needs) -- read-block-requires
+    (λ c. search needs) -- enum-known-r2
+    (λ c. search needs) -- enum-told-2
+    (λ c. search needs) -- same-length
+    (λ c. search (if·rules, needs)) -- returns-2
+    (λ c κs. search needs) -- read-block-requires-2
+    (λ c. search needs) -- enum-known-r3
+    (λ c. search needs) -- enum-told-3
+    (λ c. search needs) -- same-length-2
+    (λ c. search (if·rules, needs)) -- returns-3
+    (λ c. search needs) -- same-length-3
+    (λ c. search (if·rules, needs)) -- returns-4
+    ) (λ t. read-statement-lts.spec (read-statement-callees t) (read-statement-at t) read-statement.Post
+    (λ c κs. search needs) -- word-requires
+    (λ c. search needs) -- enum-known-r
+    (λ c. search needs) -- enum-told
+    (λ c. search (statement·rules, needs)) -- returns
+    (λ c κs. search needs) -- statement-word-requires
+    (λ c. search (statement·rules, needs)) -- returns-2
+    (λ c. search (statement·rules, needs)) -- returns-3
+    (λ c. search needs) -- sub-read-if
+    (λ c κs. search needs) -- read-if-requires
+    (λ c. search needs) -- same-length
+    (λ c. search (statement·rules, needs)) -- returns-4
+    (λ c. search needs) -- sub-read-for
+    (λ c κs. search needs) -- read-for-requires
+    (λ c. search needs) -- same-length-2
+    (λ c. search (statement·rules, needs)) -- returns-5
+    (λ c. search needs) -- sub-read-simple
+    (λ c κs. search needs) -- read-simple-requires
+    (λ c. search (statement·rules, needs)) -- returns-6
+    ) λ t. read-statements-lts.spec (read-statements-callees t) (read-statements-at t) read-statements.Post read-statements-Inv-loop read-statements-μ-loop
+    (λ c. search (statements·rules, needs)) -- loop-holds
+    (λ c κs. search needs) -- read-statement-requires
+    (λ c. search needs) -- enum-known-r
+    (λ c. search needs) -- enum-told
+    (λ c. search needs) -- same-length
+    (λ c. search (statements·rules, needs)) -- returns
+    (λ c. search needs) -- add-k
+    (λ c. search needs) -- loop-less
+    (λ c. search (statements·rules, needs)) -- loop-again
+    (λ c. search needs) -- same-length-2
+    (λ c. search (statements·rules, needs)) -- returns-2

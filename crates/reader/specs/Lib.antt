@@ -1,0 +1,4 @@
+pub mod Answers
+pub mod AnswerLaws
+pub mod Tables
+pub mod TableLaws
