@@ -36,19 +36,19 @@ module _ (whole : Bool) (image : List ℕ) where
   whole-image ws n ps m s h w l a r e =
       let c = a .words .count in
       let b : n ≡ 1 + length ws = a .words .after ∙ ap (λ z. 1 + z) (sym c) in
-      record
-        { some = s
-        ; header = h
-        ; isWhole = w
-        ; short = l
-        ; form = refl
-        ; arrays = rw b at a
-        ; procedures =
+      record {
+        some = s;
+        header = h;
+        isWhole = w;
+        short = l;
+        form = refl;
+        arrays = rw b at a;
+        procedures =
             ap (λ z. readProcedures (proceduresOf (getD image 0 0)) (formOf (getD image 0 0)) (replicate 32 0) 0 image z) (sym b) ∙ r
-            ∙ ap (λ z. got ps z) e
-        ; count = procedures-count (proceduresOf (getD image 0 0)) (formOf (getD image 0 0)) (replicate 32 0) 0 image n ps m r
-        ; ends = e
-        }
+            ∙ ap (λ z. got ps z) e;
+        count = procedures-count (proceduresOf (getD image 0 0)) (formOf (getD image 0 0)) (replicate 32 0) 0 image n ps m r;
+        ends = e;
+      }
 
   rest-holds : 1 ≤ length image → headerWord (getD image 0 0) ≡ true → whole ≡ true → length image ≤ largestImage (formOf (getD image 0 0))
       → Holds (λ tree next. ImageWords whole image tree next) (readRest (getD image 0 0) image)

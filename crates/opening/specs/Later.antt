@@ -51,6 +51,7 @@ word-wider image at good wide f g q k = ends (leb (length image) at) (good (getD
 module _ (params : List ℕ) (me me′ : ℕ) (later : me ≤ me′) (image : List ℕ) where
   mutual
     unfolding readStatement readBlock
+
     pub later-statement : (l : ℕ) → GrowAll (λ a. readStatement l params me image a) (λ a. readStatement l params me′ image a)
     later-statement zero at =
         word-wider image at (λ w. statementWord me w) (λ w. statementWord me′ w) (λ w. refused 5 at) (λ w. refused 5 at)

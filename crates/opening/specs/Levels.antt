@@ -122,6 +122,7 @@ module _ (params params′ : List ℕ) (me : ℕ) (agree : Agree me params param
 
   mutual
     unfolding readStatement readBlock
+
     pub grow-statement : (l l′ : ℕ) → l ≤ l′ → GrowAll (λ a. readStatement l params me image a) (λ a. readStatement l′ params′ me image a)
     grow-statement zero zero h at = grow-refl (onWord image at (λ w. statementWord me w) (λ w. refused 5 at))
     grow-statement zero (suc l′) h at =

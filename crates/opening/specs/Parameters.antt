@@ -53,6 +53,7 @@ module _ (params params′ : List ℕ) (me : ℕ) (agree : Agree me params param
 
   mutual
     unfolding readStatement readBlock
+
     pub statement-params : (l : ℕ) (at : ℕ) → readStatement l params me image at ≡ readStatement l params′ me image at
     statement-params zero at = refl
     statement-params (suc l) at =

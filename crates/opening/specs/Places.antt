@@ -121,6 +121,7 @@ module _ (image : List ℕ) where
   module _ (params : List ℕ) (me : ℕ) where
     mutual
       unfolding readStatement readBlock
+
       pub statement-holds : (l : ℕ) (at : ℕ) → Holds (Ends image at) (readStatement l params me image at)
       statement-holds zero at = holds-word image at (λ w. statementWord me w) (λ w. refused 5 at) (λ h. none)
       statement-holds (suc l) at =

@@ -36,17 +36,17 @@ module _ (form : ℕ) (params : List ℕ) (me : ℕ) (image : List ℕ) (at : �
       let e : n ≡ at + 1 + 1 + length ts = w .after ∙ ap (λ z. at + 1 + 1 + z) (sym c) in
       let (more, fits) = block-ends (largestLevel form) params me image n m b r in
       let a = w .after in
-      record
-        { place = refl
-        ; mode = refl
-        ; parameters = refl
-        ; result = refl
-        ; types = rw e at w
-        ; body = ap (λ z. readBlock (largestLevel form) params me image z) (sym e) ∙ r
-        ; tested = g
-        ; begins = h
-        ; ends = (omega arith, fits)
-        }
+      record {
+        place = refl;
+        mode = refl;
+        parameters = refl;
+        result = refl;
+        types = rw e at w;
+        body = ap (λ z. readBlock (largestLevel form) params me image z) (sym e) ∙ r;
+        tested = g;
+        begins = h;
+        ends = (omega arith, fits);
+      }
 
   pub procedure-holds : Holds (λ p next. ProcedureWords form params me image at p next) (readProcedure form params me image at)
   unfolding readProcedure

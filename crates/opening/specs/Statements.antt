@@ -48,7 +48,7 @@ open-statement zero params me image at t = absurd (statement-none params me imag
 open-statement (suc l) params me image at t =
     let s = statement-step (suc l) params me image at (omega arith) in
     let (h, g, e) = on-ok image at (λ w. statementWord me w)
-        (λ w. statementAt (λ a. readExpression (suc l - 1) image a) (λ a. readBlock (suc l - 1) params me image a) params at w) (ap ok (sym s) ∙ t) in
+    (λ w. statementAt (λ a. readExpression (suc l - 1) image a) (λ a. readBlock (suc l - 1) params me image a) params at w) (ap ok (sym s) ∙ t) in
     (omega arith, h, g, s ∙ e)
 
 -- a block: the count, then the statements
@@ -60,7 +60,7 @@ open-block zero params me image at t = absurd (block-none params me image at t)
 open-block (suc l) params me image at t =
     let s = block-step (suc l) params me image at (omega arith) in
     let (h, g, e) = on-ok image at blockWord
-        (λ w. readStatements (payloadOf w) (λ a. readStatement (suc l - 1) params me image a) (at + 1)) (ap ok (sym s) ∙ t) in
+    (λ w. readStatements (payloadOf w) (λ a. readStatement (suc l - 1) params me image a) (at + 1)) (ap ok (sym s) ∙ t) in
     (omega arith, h, g, ap ok (sym (s ∙ e)) ∙ t, s ∙ e)
 
 -- ---- the statements of a block, whatever reads one of them
@@ -125,8 +125,8 @@ module _ (l : ℕ) (params : List ℕ) (me : ℕ) (image : List ℕ) (at : ℕ) 
       × (readStatement l params me image at ≡ got (call (calledOf (getD image at 0)) (resultOf (getD image at 0)) es) n)
   open-call k =
       let (es, n, e, q) = open-one (readStatement l params me image at)
-          (readArguments (getD params (calledOf (getD image at 0)) 0) (λ a. readExpression (l - 1) image a) (at + 1))
-          (λ es. call (calledOf (getD image at 0)) (resultOf (getD image at 0)) es) (open-statement l params me image at t .3 ∙ rw k) t in
+      (readArguments (getD params (calledOf (getD image at 0)) 0) (λ a. readExpression (l - 1) image a) (at + 1))
+      (λ es. call (calledOf (getD image at 0)) (resultOf (getD image at 0)) es) (open-statement l params me image at t .3 ∙ rw k) t in
       (es, n, call-limit me (getD image at 0) (open-statement l params me image at t .2) k, e, q)
 
   -- the op that is left where no other is

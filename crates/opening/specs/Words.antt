@@ -88,7 +88,7 @@ pub procedure-limits : (form w : ℕ) → procedureWord form w ≡ true
 unfolding procedureWord
 procedure-limits form w h =
     let (k, a) = and-both (eqb (kindOf w) 3)
-        (leb (modeOf w + form) 1 && (leb (parametersOf w) (8 + form) && leb (localsOf w) (pick (eqb form 0) 64 246))) h in
+    (leb (modeOf w + form) 1 && (leb (parametersOf w) (8 + form) && leb (localsOf w) (pick (eqb form 0) 64 246))) h in
     let (m, b) = and-both (leb (modeOf w + form) 1) (leb (parametersOf w) (8 + form) && leb (localsOf w) (pick (eqb form 0) 64 246)) a in
     let (p, l) = and-both (leb (parametersOf w) (8 + form)) (leb (localsOf w) (pick (eqb form 0) 64 246)) b in
     (eqb-true _ _ k, leb-true _ _ m, leb-true _ _ p, leb-true _ _ l)
@@ -110,7 +110,7 @@ pub array-limits : (cells w : ℕ) → arrayWord cells w ≡ true
 unfolding arrayWord
 array-limits cells w h =
     let (k, a) = and-both (eqb (kindOf w) 2)
-        (ltb (payloadOf w / 65536) 2 && (leb 1 (arrayLength w) && (leb (arrayLength w) 256 && leb (cells + arrayLength w) 1024))) h in
+    (ltb (payloadOf w / 65536) 2 && (leb 1 (arrayLength w) && (leb (arrayLength w) 256 && leb (cells + arrayLength w) 1024))) h in
     let (m, b) = and-both (ltb (payloadOf w / 65536) 2) (leb 1 (arrayLength w) && (leb (arrayLength w) 256 && leb (cells + arrayLength w) 1024)) a in
     let (o, c) = and-both (leb 1 (arrayLength w)) (leb (arrayLength w) 256 && leb (cells + arrayLength w) 1024) b in
     let (s, l) = and-both (leb (arrayLength w) 256) (leb (cells + arrayLength w) 1024) c in

@@ -72,10 +72,13 @@ module _ (operand : Reader Expression) (image : List ℕ) (at w v : ℕ) where
   module _ (more : 10 < kindOf w) where
     n7 : kindOf w ≡ 7 → ⊥
     n7 z = omega arith
+
     n8 : kindOf w ≡ 8 → ⊥
     n8 z = omega arith
+
     n9 : kindOf w ≡ 9 → ⊥
     n9 z = omega arith
+
     n10 : kindOf w ≡ 10 → ⊥
     n10 z = omega arith
 

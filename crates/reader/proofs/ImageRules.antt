@@ -37,14 +37,14 @@ pub progress-begin : (form count : ℕ) (image params places ends : List ℕ) (a
     → Progress form count image params at params places ends 0 at
 progress-begin form count image params places ends at s =
     let e : count - 0 ≡ count = omega arith in
-    record
-      { read = []
-      ; passed = refl
-      ; filled = filled-none form image params places
-      ; sound = s
-      ; left = λ ps n r. ap (λ z. readProcedures z form params 0 image at) (sym e) ∙ r
-      ; shown = ap (λ z. answer 0 (readProcedures z form params 0 image at)) e
-      }
+    record {
+      read = [];
+      passed = refl;
+      filled = filled-none form image params places;
+      sound = s;
+      left = λ ps n r. ap (λ z. readProcedures z form params 0 image at) (sym e) ∙ r;
+      shown = ap (λ z. answer 0 (readProcedures z form params 0 image at)) e;
+    }
 
 none-here : (form : ℕ) (params : List ℕ) (me : ℕ) (image : List ℕ) (at n : ℕ) → n ≡ 0 → readProcedures n form params me image at ≡ got [] at
 unfolding readProcedures
@@ -133,20 +133,20 @@ module _ (form count : ℕ) (image start : List ℕ) (first : ℕ) (params place
           go : (p : Procedure) → readProcedure form params me image at ≡ got p next → (v : ℕ) → p .parameters ≡ v
               → Progress form count image start first (set params me v) (set places me at) ends′ (me + 1) next
           go p q v same = rw (← same) (
-              record
-                { read = s .read ++ (p ∷ [])
-                ; passed = length-append (s .read) (p ∷ []) ∙ ap (λ z. z + 1) (s .passed)
-                ; filled = filled-more form image params places (s .read) me at p next (s .filled) (s .passed) hp hq q
-                ; sound =
+              record {
+                read = s .read ++ (p ∷ []);
+                passed = length-append (s .read) (p ∷ []) ∙ ap (λ z. z + 1) (s .passed);
+                filled = filled-more form image params places (s .read) me at p next (s .filled) (s .passed) hp hq q;
+                sound =
                     later-sound image params (set params me (p .parameters)) me ends′
-                    (λ g b. sym (getD-set-other params me g (p .parameters) 0 (λ z. omega arith))) sound
-                ; left = λ ps n f.
+                    (λ g b. sym (getD-set-other params me g (p .parameters) 0 (λ z. omega arith))) sound;
+                left = λ ps n f.
                     s .left (p ∷ ps) n (turn ∙ ap behind q ∙ ap (λ z. andThen z (λ us o. got (p ∷ us) o)) f)
-                    ∙ ap (λ z. got z n) (sym (append-assoc (s .read) (p ∷ []) ps))
-                ; shown =
+                    ∙ ap (λ z. got z n) (sym (append-assoc (s .read) (p ∷ []) ps));
+                shown =
                     sym (answer-last 0 (readProcedures (count - (me + 1)) form (set params me (p .parameters)) (me + 1) image next) (λ us. p ∷ us))
-                    ∙ sym (ap (λ z. answer 0 z) (turn ∙ ap behind q)) ∙ s .shown
-                })
+                    ∙ sym (ap (λ z. answer 0 z) (turn ∙ ap behind q)) ∙ s .shown;
+              })
 
       -- the entries are stored at the procedure's number
       pub progress-more : (ends′ : List ℕ) (i v : ℕ) → Sound image params me ends′ → i ≡ me → v ≡ at → me < length params → me < length places
@@ -200,9 +200,11 @@ module _ (image : List ℕ) (w : ℕ) (r : Read) (e : r ≡ answer 0 (readArrays
     arrays-read : (ws : List ℕ) × (readRest w image ≡ after-procedures ws (readProcedures (proceduresOf w) (formOf w) start 0 image n))
     unfolding after-arrays after-procedures
     arrays-read =
-        let (ws, p) = got-of 0 (readArrays (arraysOf w) 0 image 1) r v n e d in
-        (ws, rest-shape ∙ ap after-arrays p
-        ∙ ap (λ (z : List ℕ). after-procedures ws (readProcedures (proceduresOf w) (formOf w) z 0 image n)) (sym zeros))
+        let (ws, p) = got-of 0 (readArrays (arraysOf w) 0 image 1) r v n e d in (
+          ws,
+          rest-shape ∙ ap after-arrays p
+              ∙ ap (λ (z : List ℕ). after-procedures ws (readProcedures (proceduresOf w) (formOf w) z 0 image n)) (sym zeros),
+        )
 
     module _ (m q : ℕ) (ds : s ≡ Refused m q) where
       procedures-refused : readRest w image ≡ refused m q
@@ -245,9 +247,12 @@ module _ (image : List ℕ) (w : ℕ) (r : Read) (e : r ≡ answer 0 (readArrays
             × (readRest w image ≡ got (record { form = formOf w; arrays = ws; procedures = ps }) m)
             × (readProcedures (proceduresOf w) (formOf w) start 0 image n ≡ got ps m)
         rest-read =
-            let (ws, ps, p, g) = procedures-read in
-            (ws, ps,
-            p ∙ ap (λ b. pick b (got (record { form = formOf w; arrays = ws; procedures = ps }) m) (refused 4 m)) (eq-eqb m (length image) all), g)
+            let (ws, ps, p, g) = procedures-read in (
+              ws,
+              ps,
+              p ∙ ap (λ b. pick b (got (record { form = formOf w; arrays = ws; procedures = ps }) m) (refused 4 m)) (eq-eqb m (length image) all),
+              g,
+            )
 
         pub rest-whole : At w m ≡ answer w (readRest w image)
         rest-whole =

@@ -57,9 +57,14 @@ module _ (image params : List ℕ) (me : ℕ) where
       here : (t e : Bool) → ltb at (length ends) ≡ t → eqb a at ≡ e
           → (k : ℕ) × (g : ℕ) × (c : Block) × (g ≤ me) × (readBlock k params g image a ≡ got c (getD (set ends at n) a 0))
       here true true p q =
-          let same : a ≡ at = eqb-true a at q in
-          (l, me, b, omega arith, ap (λ z. readBlock l params me image z) same ∙ r
-          ∙ ap (λ z. got b z) (sym (ap (λ z. getD (set ends at n) z 0) same ∙ getD-set-same ends at n 0 (ltb-true at (length ends) p))))
+          let same : a ≡ at = eqb-true a at q in (
+            l,
+            me,
+            b,
+            omega arith,
+            ap (λ z. readBlock l params me image z) same ∙ r
+                ∙ ap (λ z. got b z) (sym (ap (λ z. getD (set ends at n) z 0) same ∙ getD-set-same ends at n 0 (ltb-true at (length ends) p))),
+          )
       here true false p q = other (getD-set-other ends at a n 0 (eqb-false a at q))
       here false e p q = other (ap (λ z. getD z a 0) (set-out ends at n (ltb-false at (length ends) p)))
 
@@ -143,22 +148,24 @@ filled-more form image params places ps me at p n filled e hp hq r f h = here (e
         × (getD (set params me (p .parameters)) f 0 ≡ procedureAt (ps ++ (p ∷ [])) f .parameters)
     before b =
         let (m, q, c) = filled f (omega arith) in
-        let same = List·getD-append ps (p ∷ []) noProcedure f (omega arith) in
-        (m,
-        procedure-params form (set params me (p .parameters)) params f image (getD (set places me at) f 0) (λ g l. kept g (omega arith))
-        ∙ ap (λ z. readProcedure form params f image z) (getD-set-other places me f at 0 (λ z. omega arith)) ∙ q ∙ ap (λ z. got z m) (sym same),
-        kept f b ∙ c ∙ ap (λ (z : Procedure). z .parameters) (sym same))
+        let same = List·getD-append ps (p ∷ []) noProcedure f (omega arith) in (
+          m,
+          procedure-params form (set params me (p .parameters)) params f image (getD (set places me at) f 0) (λ g l. kept g (omega arith))
+              ∙ ap (λ z. readProcedure form params f image z) (getD-set-other places me f at 0 (λ z. omega arith)) ∙ q ∙ ap (λ z. got z m) (sym same),
+          kept f b ∙ c ∙ ap (λ (z : Procedure). z .parameters) (sym same),
+        )
 
     last : procedureAt (ps ++ (p ∷ [])) me ≡ p
     last = getD-at ps p [] noProcedure me e
 
     own : (m : ℕ) × (readProcedure form (set params me (p .parameters)) me image (getD (set places me at) me 0) ≡ got (procedureAt (ps ++ (p ∷ [])) me) m)
         × (getD (set params me (p .parameters)) me 0 ≡ procedureAt (ps ++ (p ∷ [])) me .parameters)
-    own =
-        (n,
-        procedure-params form (set params me (p .parameters)) params me image (getD (set places me at) me 0) (λ g l. kept g l)
-        ∙ ap (λ z. readProcedure form params me image z) (getD-set-same places me at 0 hq) ∙ r ∙ ap (λ z. got z n) (sym last),
-        getD-set-same params me (p .parameters) 0 hp ∙ ap (λ (z : Procedure). z .parameters) (sym last))
+    own = (
+      n,
+      procedure-params form (set params me (p .parameters)) params me image (getD (set places me at) me 0) (λ g l. kept g l)
+          ∙ ap (λ z. readProcedure form params me image z) (getD-set-same places me at 0 hq) ∙ r ∙ ap (λ z. got z n) (sym last),
+      getD-set-same params me (p .parameters) 0 hp ∙ ap (λ (z : Procedure). z .parameters) (sym last),
+    )
 
     here : (t : Bool) → eqb f me ≡ t
         → (m : ℕ) × (readProcedure form (set params me (p .parameters)) f image (getD (set places me at) f 0) ≡ got (procedureAt (ps ++ (p ∷ [])) f) m)

@@ -5,7 +5,9 @@ ghost use lib.ListN.{getD};
 ghost use Rattle.definitions.specs.Reading.{readExpression};
 ghost use Rattle.reader.specs.Answers.{answer, rawAnswer, readArgumentsAt};
 use super::Read;
-use super::words::{word, expression_word, raw_word};
+use super::words::expression_word;
+use super::words::raw_word;
+use super::words::word;
 
 // The raw constant after its word.
 fn read_raw(image: &[u32], w: u32, at: usize) -> Read

@@ -8,20 +8,28 @@ ghost use Rattle.definitions.specs.Reading.{readProcedures, readRest, readImage
 ghost use Rattle.reader.specs.Answers.{answer};
 ghost use Rattle.reader.specs.Tables.{Sound, FilledBy, TablesOf};
 use super::Read;
-use super::words::{header_word, largest_image};
-use super::tables::{wide, narrow, clear};
-use super::procedures::{read_procedure, read_arrays};
+use super::procedures::read_arrays;
+use super::procedures::read_procedure;
+use super::tables::clear;
+use super::tables::narrow;
+use super::tables::wide;
+use super::words::header_word;
+use super::words::largest_image;
 
 // `count` procedures, with the number of parameters and the place of each; there need be none, so that the word answered is 0.
-fn read_procedures(image: &[u32], form: u32, count: u32, params: &mut [u32], places: &mut [u32], ends: &mut [u32], at: usize) -> Read
-    requires {
-        ⌜ (form < 2) × (count ≤ 32) × (length (now image) ≤ 16384) × (length (now params) ≡ 32) × (length (now places) ≡ 32)
-            × Sound (now image) (now params) 0 (now ends) ⌝
-    }
-    ensures {
-        λ r. ⌜ (r ≡ answer 0 (readProcedures count form (now (params .entry)) 0 (now (image .entry)) at))
-            × FilledBy form count (now (image .entry)) (now (params .entry)) at (now (params .exit)) (now (places .exit)) (now (ends .exit)) ⌝
-    }
+fn read_procedures(
+    image: &[u32],
+    form: u32,
+    count: u32,
+    params: &mut [u32],
+    places: &mut [u32],
+    ends: &mut [u32],
+    at: usize,
+) -> Read
+    requires { ⌜ (form < 2) × (count ≤ 32) × (length (now image) ≤ 16384) × (length (now params) ≡ 32) × (length (now places) ≡ 32)
+        × Sound (now image) (now params) 0 (now ends) ⌝ }
+    ensures { λ r. ⌜ (r ≡ answer 0 (readProcedures count form (now (params .entry)) 0 (now (image .entry)) at))
+        × FilledBy form count (now (image .entry)) (now (params .entry)) at (now (params .exit)) (now (places .exit)) (now (ends .exit)) ⌝ }
 {
     let mut me: u32 = 0;
     let mut a = at;
@@ -40,15 +48,17 @@ fn read_procedures(image: &[u32], form: u32, count: u32, params: &mut [u32], pla
 }
 
 // What follows a header that was tested, up to the image's end: "4 [first spare word]".
-fn read_rest(image: &[u32], header: u32, params: &mut [u32], places: &mut [u32], ends: &mut [u32]) -> Read
-    requires {
-        ⌜ (headerWord header ≡ true) × (length (now image) ≤ 16384) × (now params ≡ replicate 32 0) × (length (now places) ≡ 32)
-            × Sound (now image) (now params) 0 (now ends) ⌝
-    }
-    ensures {
-        λ r. ⌜ (r ≡ answer header (readRest header (now (image .entry))))
-            × TablesOf (readRest header (now (image .entry))) (now (image .entry)) (now (params .exit)) (now (places .exit)) (now (ends .exit)) ⌝
-    }
+fn read_rest(
+    image: &[u32],
+    header: u32,
+    params: &mut [u32],
+    places: &mut [u32],
+    ends: &mut [u32],
+) -> Read
+    requires { ⌜ (headerWord header ≡ true) × (length (now image) ≤ 16384) × (now params ≡ replicate 32 0) × (length (now places) ≡ 32)
+        × Sound (now image) (now params) 0 (now ends) ⌝ }
+    ensures { λ r. ⌜ (r ≡ answer header (readRest header (now (image .entry))))
+        × TablesOf (readRest header (now (image .entry))) (now (image .entry)) (now (params .exit)) (now (places .exit)) (now (ends .exit)) ⌝ }
 {
     let p = header % 268435456;
     let r = read_arrays(image, p / 256 % 256, 1);
@@ -66,14 +76,16 @@ fn read_rest(image: &[u32], header: u32, params: &mut [u32], places: &mut [u32],
 }
 
 // An image, with cleared tables. The header comes before the length.
-fn read_whole(image: &[u32], whole: bool, params: &mut [u32], places: &mut [u32], ends: &mut [u32]) -> Read
-    requires {
-        ⌜ (now params ≡ replicate 32 0) × (length (now places) ≡ 32) × Sound (now image) (now params) 0 (now ends) ⌝
-    }
-    ensures {
-        λ r. ⌜ (r ≡ answer (getD (now (image .entry)) 0 0) (readImage whole (now (image .entry))))
-            × TablesOf (readImage whole (now (image .entry))) (now (image .entry)) (now (params .exit)) (now (places .exit)) (now (ends .exit)) ⌝
-    }
+fn read_whole(
+    image: &[u32],
+    whole: bool,
+    params: &mut [u32],
+    places: &mut [u32],
+    ends: &mut [u32],
+) -> Read
+    requires { ⌜ (now params ≡ replicate 32 0) × (length (now places) ≡ 32) × Sound (now image) (now params) 0 (now ends) ⌝ }
+    ensures { λ r. ⌜ (r ≡ answer (getD (now (image .entry)) 0 0) (readImage whole (now (image .entry))))
+        × TablesOf (readImage whole (now (image .entry))) (now (image .entry)) (now (params .exit)) (now (places .exit)) (now (ends .exit)) ⌝ }
 {
     if image.len() == 0 {
         return Read::Refused(1, 0); // empty
@@ -90,12 +102,16 @@ fn read_whole(image: &[u32], whole: bool, params: &mut [u32], places: &mut [u32]
 }
 
 // An image, with tables that are lent as slices.
-pub fn read_into(image: &[u32], whole: bool, params: &mut [u32], places: &mut [u32], ends: &mut [u32]) -> Read
+pub fn read_into(
+    image: &[u32],
+    whole: bool,
+    params: &mut [u32],
+    places: &mut [u32],
+    ends: &mut [u32],
+) -> Read
     requires { ⌜ (length (now params) ≡ 32) × (length (now places) ≡ 32) ⌝ }
-    ensures {
-        λ r. ⌜ (r ≡ answer (getD (now (image .entry)) 0 0) (readImage whole (now (image .entry))))
-            × TablesOf (readImage whole (now (image .entry))) (now (image .entry)) (now (params .exit)) (now (places .exit)) (now (ends .exit)) ⌝
-    }
+    ensures { λ r. ⌜ (r ≡ answer (getD (now (image .entry)) 0 0) (readImage whole (now (image .entry))))
+        × TablesOf (readImage whole (now (image .entry))) (now (image .entry)) (now (params .exit)) (now (places .exit)) (now (ends .exit)) ⌝ }
 {
     clear(params);
     clear(ends);
@@ -104,11 +120,15 @@ pub fn read_into(image: &[u32], whole: bool, params: &mut [u32], places: &mut [u
 
 // Reads an image and leaves the tables for the passes after: the number of parameters and the place of each procedure, and the place
 // after each block, as far as `ends` is long enough. `whole` tells whether the image came as whole words.
-pub fn read_image(image: &[u32], whole: bool, params: &mut [u32; 32], places: &mut [u32; 32], ends: &mut [u32]) -> Read
-    ensures {
-        λ r. ⌜ (r ≡ answer (getD (now (image .entry)) 0 0) (readImage whole (now (image .entry))))
-            × TablesOf (readImage whole (now (image .entry))) (now (image .entry)) (now (params .exit)) (now (places .exit)) (now (ends .exit)) ⌝
-    }
+pub fn read_image(
+    image: &[u32],
+    whole: bool,
+    params: &mut [u32; 32],
+    places: &mut [u32; 32],
+    ends: &mut [u32],
+) -> Read
+    ensures { λ r. ⌜ (r ≡ answer (getD (now (image .entry)) 0 0) (readImage whole (now (image .entry))))
+        × TablesOf (readImage whole (now (image .entry))) (now (image .entry)) (now (params .exit)) (now (places .exit)) (now (ends .exit)) ⌝ }
 {
     read_into(image, whole, params, places, ends)
 }

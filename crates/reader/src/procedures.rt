@@ -6,8 +6,12 @@ ghost use Rattle.definitions.specs.Reading.{readTypes, readProcedure, readArray
 ghost use Rattle.reader.specs.Answers.{answer, bodyAnswer};
 ghost use Rattle.reader.specs.Tables.{Sound};
 use super::Read;
-use super::words::{word, type_word, procedure_word, array_word, largest_level};
 use super::statements::read_block;
+use super::words::array_word;
+use super::words::largest_level;
+use super::words::procedure_word;
+use super::words::type_word;
+use super::words::word;
 
 // `count` type words; there need be none, so that the word answered is 0.
 pub fn read_types(image: &[u32], count: u32, at: usize) -> Read
@@ -30,12 +34,18 @@ pub fn read_types(image: &[u32], count: u32, at: usize) -> Read
 }
 
 // The types of a procedure's parameters and locals, then its body; `w` is the procedure's word.
-fn read_body(image: &[u32], form: u32, params: &[u32], me: u32, ends: &mut [u32], w: u32, at: usize) -> Read
+fn read_body(
+    image: &[u32],
+    form: u32,
+    params: &[u32],
+    me: u32,
+    ends: &mut [u32],
+    w: u32,
+    at: usize,
+) -> Read
     requires { ⌜ Sound (now image) (now params) me (now ends) ⌝ }
-    ensures {
-        λ r. ⌜ (r ≡ bodyAnswer form (now (params .entry)) me (now (image .entry)) w at)
-            × Sound (now (image .entry)) (now (params .entry)) me (now (ends .exit)) ⌝
-    }
+    ensures { λ r. ⌜ (r ≡ bodyAnswer form (now (params .entry)) me (now (image .entry)) w at)
+        × Sound (now (image .entry)) (now (params .entry)) me (now (ends .exit)) ⌝ }
 {
     let p = w % 268435456;
     let r1 = read_types(image, p / 256 % 256 + p % 256, at);
@@ -50,12 +60,17 @@ fn read_body(image: &[u32], form: u32, params: &[u32], me: u32, ends: &mut [u32]
 }
 
 // The procedure numbered `me`: its word, its result's type, then the rest.
-pub fn read_procedure(image: &[u32], form: u32, params: &[u32], me: u32, ends: &mut [u32], at: usize) -> Read
+pub fn read_procedure(
+    image: &[u32],
+    form: u32,
+    params: &[u32],
+    me: u32,
+    ends: &mut [u32],
+    at: usize,
+) -> Read
     requires { ⌜ (form < 2) × Sound (now image) (now params) me (now ends) ⌝ }
-    ensures {
-        λ r. ⌜ (r ≡ answer (getD (now (image .entry)) at 0) (readProcedure form (now (params .entry)) me (now (image .entry)) at))
-            × Sound (now (image .entry)) (now (params .entry)) me (now (ends .exit)) ⌝
-    }
+    ensures { λ r. ⌜ (r ≡ answer (getD (now (image .entry)) at 0) (readProcedure form (now (params .entry)) me (now (image .entry)) at))
+        × Sound (now (image .entry)) (now (params .entry)) me (now (ends .exit)) ⌝ }
 {
     let r = word(image, at);
     let Read::At(w, next) = r else {

@@ -8,9 +8,14 @@ ghost use Rattle.opening.specs.Parses.{ok, endOf};
 ghost use Rattle.reader.specs.Answers.{answer, simpleAnswer, ifAnswer, forAnswer, readStatementsAt};
 ghost use Rattle.reader.specs.Tables.{Sound, BlockEnds};
 use super::Read;
-use super::words::{word, block_word, statement_word};
-use super::tables::{wide, entry, mark};
-use super::expressions::{read_expression, read_arguments};
+use super::expressions::read_arguments;
+use super::expressions::read_expression;
+use super::tables::entry;
+use super::tables::mark;
+use super::tables::wide;
+use super::words::block_word;
+use super::words::statement_word;
+use super::words::word;
 
 // What follows the word of an assignment, a store, a return or a call.
 fn read_simple(image: &[u32], params: &[u32], w: u32, at: usize, level: u32) -> Read
@@ -40,12 +45,18 @@ fn read_simple(image: &[u32], params: &[u32], w: u32, at: usize, level: u32) -> 
 }
 
 // What follows the word of an if.
-fn read_if(image: &[u32], params: &[u32], me: u32, ends: &mut [u32], w: u32, at: usize, level: u32) -> Read
+fn read_if(
+    image: &[u32],
+    params: &[u32],
+    me: u32,
+    ends: &mut [u32],
+    w: u32,
+    at: usize,
+    level: u32,
+) -> Read
     requires { ⌜ Sound (now image) (now params) me (now ends) ⌝ }
-    ensures {
-        λ r. ⌜ (r ≡ ifAnswer level (now (params .entry)) me (now (image .entry)) w at)
-            × Sound (now (image .entry)) (now (params .entry)) me (now (ends .exit)) ⌝
-    }
+    ensures { λ r. ⌜ (r ≡ ifAnswer level (now (params .entry)) me (now (image .entry)) w at)
+        × Sound (now (image .entry)) (now (params .entry)) me (now (ends .exit)) ⌝ }
 {
     let r1 = read_expression(image, at, level);
     let Read::At(_, n) = r1 else {
@@ -63,12 +74,18 @@ fn read_if(image: &[u32], params: &[u32], me: u32, ends: &mut [u32], w: u32, at:
 }
 
 // What follows the word of a for.
-fn read_for(image: &[u32], params: &[u32], me: u32, ends: &mut [u32], w: u32, at: usize, level: u32) -> Read
+fn read_for(
+    image: &[u32],
+    params: &[u32],
+    me: u32,
+    ends: &mut [u32],
+    w: u32,
+    at: usize,
+    level: u32,
+) -> Read
     requires { ⌜ Sound (now image) (now params) me (now ends) ⌝ }
-    ensures {
-        λ r. ⌜ (r ≡ forAnswer level (now (params .entry)) me (now (image .entry)) w at)
-            × Sound (now (image .entry)) (now (params .entry)) me (now (ends .exit)) ⌝
-    }
+    ensures { λ r. ⌜ (r ≡ forAnswer level (now (params .entry)) me (now (image .entry)) w at)
+        × Sound (now (image .entry)) (now (params .entry)) me (now (ends .exit)) ⌝ }
 {
     let r1 = read_expression(image, at, level);
     let Read::At(_, n) = r1 else {
@@ -86,12 +103,17 @@ fn read_for(image: &[u32], params: &[u32], me: u32, ends: &mut [u32], w: u32, at
 }
 
 // A statement in the body of the procedure numbered `me`; `params` has the number of parameters of each procedure before it.
-pub fn read_statement(image: &[u32], params: &[u32], me: u32, ends: &mut [u32], at: usize, level: u32) -> Read
+pub fn read_statement(
+    image: &[u32],
+    params: &[u32],
+    me: u32,
+    ends: &mut [u32],
+    at: usize,
+    level: u32,
+) -> Read
     requires { ⌜ Sound (now image) (now params) me (now ends) ⌝ }
-    ensures {
-        λ r. ⌜ (r ≡ answer (getD (now (image .entry)) at 0) (readStatement level (now (params .entry)) me (now (image .entry)) at))
-            × Sound (now (image .entry)) (now (params .entry)) me (now (ends .exit)) ⌝
-    }
+    ensures { λ r. ⌜ (r ≡ answer (getD (now (image .entry)) at 0) (readStatement level (now (params .entry)) me (now (image .entry)) at))
+        × Sound (now (image .entry)) (now (params .entry)) me (now (ends .exit)) ⌝ }
 {
     let r = word(image, at);
     let Read::At(w, next) = r else {
@@ -114,12 +136,18 @@ pub fn read_statement(image: &[u32], params: &[u32], me: u32, ends: &mut [u32], 
 }
 
 // `count` statements in a row; there need be none, so that the word answered is 0.
-fn read_statements(image: &[u32], params: &[u32], me: u32, ends: &mut [u32], count: u32, at: usize, level: u32) -> Read
+fn read_statements(
+    image: &[u32],
+    params: &[u32],
+    me: u32,
+    ends: &mut [u32],
+    count: u32,
+    at: usize,
+    level: u32,
+) -> Read
     requires { ⌜ Sound (now image) (now params) me (now ends) ⌝ }
-    ensures {
-        λ r. ⌜ (r ≡ answer 0 (readStatementsAt count level (now (params .entry)) me (now (image .entry)) at))
-            × Sound (now (image .entry)) (now (params .entry)) me (now (ends .exit)) ⌝
-    }
+    ensures { λ r. ⌜ (r ≡ answer 0 (readStatementsAt count level (now (params .entry)) me (now (image .entry)) at))
+        × Sound (now (image .entry)) (now (params .entry)) me (now (ends .exit)) ⌝ }
 {
     let mut k = 0;
     let mut a = at;
@@ -135,12 +163,17 @@ fn read_statements(image: &[u32], params: &[u32], me: u32, ends: &mut [u32], cou
 }
 
 // A block: a count, then that many statements. Its end is marked.
-pub fn read_block(image: &[u32], params: &[u32], me: u32, ends: &mut [u32], at: usize, level: u32) -> Read
+pub fn read_block(
+    image: &[u32],
+    params: &[u32],
+    me: u32,
+    ends: &mut [u32],
+    at: usize,
+    level: u32,
+) -> Read
     requires { ⌜ Sound (now image) (now params) me (now ends) ⌝ }
-    ensures {
-        λ r. ⌜ (r ≡ answer (getD (now (image .entry)) at 0) (readBlock level (now (params .entry)) me (now (image .entry)) at))
-            × Sound (now (image .entry)) (now (params .entry)) me (now (ends .exit)) ⌝
-    }
+    ensures { λ r. ⌜ (r ≡ answer (getD (now (image .entry)) at 0) (readBlock level (now (params .entry)) me (now (image .entry)) at))
+        × Sound (now (image .entry)) (now (params .entry)) me (now (ends .exit)) ⌝ }
 {
     let r = word(image, at);
     let Read::At(w, next) = r else {
@@ -161,10 +194,15 @@ pub fn read_block(image: &[u32], params: &[u32], me: u32, ends: &mut [u32], at: 
 }
 
 // The place after a block that is known to read: from the table, or where that has no entry by reading the block again.
-pub fn block_end(image: &[u32], params: &[u32], me: u32, ends: &[u32], at: usize, level: u32) -> usize
-    requires {
-        ⌜ BlockEnds (now image) (now params) (now ends) × (ok (readBlock level (now params) me (now image) at) ≡ true) ⌝
-    }
+pub fn block_end(
+    image: &[u32],
+    params: &[u32],
+    me: u32,
+    ends: &[u32],
+    at: usize,
+    level: u32,
+) -> usize
+    requires { ⌜ BlockEnds (now image) (now params) (now ends) × (ok (readBlock level (now params) me (now image) at) ≡ true) ⌝ }
     ensures { λ r. ⌜ r ≡ endOf (readBlock level (now (params .entry)) me (now (image .entry)) at) ⌝ }
 {
     let e = entry(ends, at);

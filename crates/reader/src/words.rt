@@ -19,7 +19,8 @@ pub fn header_word(w: u32) -> bool
     ensures { λ r. ⌜ r ≡ headerWord w ⌝ }
 {
     let p = w % 268435456;
-    (w / 268435456 == 1) & ((p / 65536 < 2) & ((p / 256 % 256 <= 16) & ((1 <= p % 256) & (p % 256 <= 32))))
+    (w / 268435456 == 1)
+        & ((p / 65536 < 2) & ((p / 256 % 256 <= 16) & ((1 <= p % 256) & (p % 256 <= 32))))
 }
 
 pub fn largest_image(form: u32) -> usize
@@ -46,7 +47,9 @@ pub fn array_word(cells: u32, w: u32) -> bool
     ensures { λ r. ⌜ r ≡ arrayWord cells w ⌝ }
 {
     let length = w % 65536;
-    (w / 268435456 == 2) & ((w % 268435456 / 65536 < 2) & ((1 <= length) & ((length <= 256) & (cells + length <= 1024))))
+    (w / 268435456 == 2)
+        & ((w % 268435456 / 65536 < 2)
+            & ((1 <= length) & ((length <= 256) & (cells + length <= 1024))))
 }
 
 pub fn most_locals(form: u32) -> u32
@@ -64,7 +67,8 @@ pub fn procedure_word(form: u32, w: u32) -> bool
 {
     let p = w % 268435456;
     let locals = most_locals(form);
-    (w / 268435456 == 3) & ((p / 65536 + form <= 1) & ((p / 256 % 256 <= 8 + form) & (p % 256 <= locals)))
+    (w / 268435456 == 3)
+        & ((p / 65536 + form <= 1) & ((p / 256 % 256 <= 8 + form) & (p % 256 <= locals)))
 }
 
 pub fn type_word(w: u32) -> bool
@@ -86,7 +90,9 @@ pub fn statement_word(me: u32, w: u32) -> bool
     let op = w % 268435456 / 65536;
     let q = w % 65536;
     (w / 268435456 == 6)
-        & ((op < 2) | (((op == 2) & (q == 0)) | ((op == 3) | (((op == 4) & (q == 0)) | ((op == 5) & (q / 256 < me))))))
+        & ((op < 2)
+            | (((op == 2) & (q == 0))
+                | ((op == 3) | (((op == 4) & (q == 0)) | ((op == 5) & (q / 256 < me))))))
 }
 
 pub fn expression_word(w: u32) -> bool
@@ -98,7 +104,9 @@ pub fn expression_word(w: u32) -> bool
         | (((k == 8) & (p == 0))
             | (((k == 9) & (p < 2))
                 | ((k == 10)
-                    | ((k == 11) | (((k == 12) & (p < 3)) | (((k == 13) & (p < 15)) | ((k == 14) & (p == 0))))))))
+                    | ((k == 11)
+                        | (((k == 12) & (p < 3))
+                            | (((k == 13) & (p < 15)) | ((k == 14) & (p == 0))))))))
 }
 
 pub fn raw_word(w: u32) -> bool

@@ -29,31 +29,31 @@ read-expression-callees t =
 
 pub +read-expression-spec : {M : Type 1} → statement M
 +read-expression-spec = close μ-read-expression λ t. read-expression-lts.spec (read-expression-callees t) (read-expression-at t) read-expression.Post
-    (λ c κs. search needs) -- word-requires
-    (λ c. search needs) -- enum-known-r
-    (λ c. search needs) -- enum-told
-    (λ c. search (expression·rules, needs)) -- returns
-    (λ c κs. search needs) -- expression-word-requires
-    (λ c. search (expression·rules, needs)) -- returns-2
-    (λ c. search (expression·rules, needs)) -- returns-3
-    (λ c κs. search needs) -- read-raw-requires
-    (λ c. search (expression·rules, needs)) -- returns-4
-    (λ c. search (expression·rules, needs)) -- returns-5
-    (λ c. search needs) -- sub-read-expression
-    (λ c κs. search needs) -- read-expression-requires
-    (λ c. search needs) -- enum-known-r1
-    (λ c. search needs) -- enum-told-2
-    (λ c. search (expression·rules, needs)) -- returns-6
-    (λ c. search (expression·rules, needs)) -- returns-7
-    (λ c. search needs) -- sub-read-expression-2
-    (λ c κs. search needs) -- read-expression-requires-2
-    (λ c. search needs) -- enum-known-r2
-    (λ c. search needs) -- enum-told-3
-    (λ c. search (expression·rules, needs)) -- returns-8
-    (λ c. search (expression·rules, needs)) -- returns-9
-    (λ c. search needs) -- sub-read-expression-3
-    (λ c κs. search needs) -- read-expression-requires-3
-    (λ c. search needs) -- enum-known-r3
-    (λ c. search needs) -- enum-told-4
-    (λ c. search (expression·rules, needs)) -- returns-10
-    (λ c. search (expression·rules, needs)) -- returns-11
+    (λ c κs. search needs)  -- word-requires
+    (λ c. search needs)  -- enum-known-r
+    (λ c. search needs)  -- enum-told
+    (λ c. search (expression·rules, needs))  -- returns
+    (λ c κs. search needs)  -- expression-word-requires
+    (λ c. search (expression·rules, needs))  -- returns-2
+    (λ c. search (expression·rules, needs))  -- returns-3
+    (λ c κs. search needs)  -- read-raw-requires
+    (λ c. search (expression·rules, needs))  -- returns-4
+    (λ c. search (expression·rules, needs))  -- returns-5
+    (λ c. search needs)  -- sub-read-expression
+    (λ c κs. search needs)  -- read-expression-requires
+    (λ c. search needs)  -- enum-known-r1
+    (λ c. search needs)  -- enum-told-2
+    (λ c. search (expression·rules, needs))  -- returns-6
+    (λ c. search (expression·rules, needs))  -- returns-7
+    (λ c. search needs)  -- sub-read-expression-2
+    (λ c κs. search needs)  -- read-expression-requires-2
+    (λ c. search needs)  -- enum-known-r2
+    (λ c. search needs)  -- enum-told-3
+    (λ c. search (expression·rules, needs))  -- returns-8
+    (λ c. search (expression·rules, needs))  -- returns-9
+    (λ c. search needs)  -- sub-read-expression-3
+    (λ c κs. search needs)  -- read-expression-requires-3
+    (λ c. search needs)  -- enum-known-r3
+    (λ c. search needs)  -- enum-told-4
+    (λ c. search (expression·rules, needs))  -- returns-10
+    (λ c. search (expression·rules, needs))  -- returns-11

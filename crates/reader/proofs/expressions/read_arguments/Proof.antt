@@ -16,13 +16,13 @@ abbrev μ-loop : tie.MeasureT-loop
 
 pub read-arguments-spec : {M : Type 1} → statement M
 read-arguments-spec = tie.close (tie.spec Inv-loop μ-loop
-    (λ c. search (arguments·rules, needs)) -- loop-holds
-    (λ c κs. search needs) -- read-expression-requires
-    (λ c. search needs) -- enum-known-r
-    (λ c. search needs) -- enum-told
-    (λ c. search (arguments·rules, needs)) -- returns
-    (λ c. search needs) -- add-k
-    (λ c. search needs) -- loop-less
-    (λ c. search (arguments·rules, needs)) -- loop-again
-    (λ c. search (arguments·rules, needs)) -- returns-2
+    (λ c. search (arguments·rules, needs))  -- loop-holds
+    (λ c κs. search needs)  -- read-expression-requires
+    (λ c. search needs)  -- enum-known-r
+    (λ c. search needs)  -- enum-told
+    (λ c. search (arguments·rules, needs))  -- returns
+    (λ c. search needs)  -- add-k
+    (λ c. search needs)  -- loop-less
+    (λ c. search (arguments·rules, needs))  -- loop-again
+    (λ c. search (arguments·rules, needs))  -- returns-2
     )

@@ -7,11 +7,11 @@ use Rattle.reader.proofs.expressions.read_raw.Tie as tie
 
 pub read-raw-spec : {M : Type 1} → statement M
 read-raw-spec = tie.close (tie.spec
-    (λ c κs. search needs) -- word-requires
-    (λ c. search needs) -- enum-known-r
-    (λ c. search needs) -- enum-told
-    (λ c. search (raw·rules, needs)) -- returns
-    (λ c κs. search needs) -- raw-word-requires
-    (λ c. search (raw·rules, needs)) -- returns-2
-    (λ c. search (raw·rules, needs)) -- returns-3
+    (λ c κs. search needs)  -- word-requires
+    (λ c. search needs)  -- enum-known-r
+    (λ c. search needs)  -- enum-told
+    (λ c. search (raw·rules, needs))  -- returns
+    (λ c κs. search needs)  -- raw-word-requires
+    (λ c. search (raw·rules, needs))  -- returns-2
+    (λ c. search (raw·rules, needs))  -- returns-3
     )

@@ -17,16 +17,16 @@ abbrev μ-loop : tie.MeasureT-loop
 
 pub read-arrays-spec : {M : Type 1} → statement M
 read-arrays-spec = tie.close (tie.spec Inv-loop μ-loop
-    (λ c. search (arrays·rules, needs)) -- loop-holds
-    (λ c κs. search needs) -- word-requires
-    (λ c. search needs) -- enum-known-r
-    (λ c. search needs) -- enum-told
-    (λ c. search (arrays·rules, needs)) -- returns
-    (λ c κs. search needs) -- array-word-requires
-    (λ c. search (arrays·rules, needs)) -- returns-2
-    (λ c. search needs) -- add-cells
-    (λ c. search needs) -- add-k
-    (λ c. search needs) -- loop-less
-    (λ c. search (arrays·rules, needs)) -- loop-again
-    (λ c. search (arrays·rules, needs)) -- returns-3
+    (λ c. search (arrays·rules, needs))  -- loop-holds
+    (λ c κs. search needs)  -- word-requires
+    (λ c. search needs)  -- enum-known-r
+    (λ c. search needs)  -- enum-told
+    (λ c. search (arrays·rules, needs))  -- returns
+    (λ c κs. search needs)  -- array-word-requires
+    (λ c. search (arrays·rules, needs))  -- returns-2
+    (λ c. search needs)  -- add-cells
+    (λ c. search needs)  -- add-k
+    (λ c. search needs)  -- loop-less
+    (λ c. search (arrays·rules, needs))  -- loop-again
+    (λ c. search (arrays·rules, needs))  -- returns-3
     )

@@ -17,15 +17,15 @@ abbrev μ-loop : tie.MeasureT-loop
 
 pub read-types-spec : {M : Type 1} → statement M
 read-types-spec = tie.close (tie.spec Inv-loop μ-loop
-    (λ c. search (types·rules, needs)) -- loop-holds
-    (λ c κs. search needs) -- word-requires
-    (λ c. search needs) -- enum-known-r
-    (λ c. search needs) -- enum-told
-    (λ c. search (types·rules, needs)) -- returns
-    (λ c κs. search needs) -- type-word-requires
-    (λ c. search (types·rules, needs)) -- returns-2
-    (λ c. search needs) -- add-k
-    (λ c. search needs) -- loop-less
-    (λ c. search (types·rules, needs)) -- loop-again
-    (λ c. search (types·rules, needs)) -- returns-3
+    (λ c. search (types·rules, needs))  -- loop-holds
+    (λ c κs. search needs)  -- word-requires
+    (λ c. search needs)  -- enum-known-r
+    (λ c. search needs)  -- enum-told
+    (λ c. search (types·rules, needs))  -- returns
+    (λ c κs. search needs)  -- type-word-requires
+    (λ c. search (types·rules, needs))  -- returns-2
+    (λ c. search needs)  -- add-k
+    (λ c. search needs)  -- loop-less
+    (λ c. search (types·rules, needs))  -- loop-again
+    (λ c. search (types·rules, needs))  -- returns-3
     )

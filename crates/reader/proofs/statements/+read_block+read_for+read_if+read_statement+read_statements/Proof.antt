@@ -107,83 +107,83 @@ read-statements-callees t =
 
 pub +read-block+read-for+read-if+read-statement+read-statements-spec : {M : Type 1} → statement M
 +read-block+read-for+read-if+read-statement+read-statements-spec = close μ-read-block μ-read-for μ-read-if μ-read-statement μ-read-statements (λ t. read-block-lts.spec (read-block-callees t) (read-block-at t) read-block.Post
-    (λ c κs. search needs) -- word-requires
-    (λ c. search needs) -- enum-known-r
-    (λ c. search needs) -- enum-told
-    (λ c. search (block·rules, needs)) -- returns
-    (λ c κs. search needs) -- block-word-requires
-    (λ c. search (block·rules, needs)) -- returns-2
-    (λ c. search (block·rules, needs)) -- returns-3
-    (λ c. search needs) -- sub-read-statements
-    (λ c κs. search needs) -- read-statements-requires
-    (λ c. search needs) -- enum-known-s
-    (λ c. search needs) -- enum-told-2
-    (λ c. search needs) -- same-length
-    (λ c. search (block·rules, needs)) -- returns-4
-    (λ c κs. search needs) -- mark-requires
-    (λ c. search needs) -- same-length-2
-    (λ c. search (block·rules, needs)) -- returns-5
+    (λ c κs. search needs)  -- word-requires
+    (λ c. search needs)  -- enum-known-r
+    (λ c. search needs)  -- enum-told
+    (λ c. search (block·rules, needs))  -- returns
+    (λ c κs. search needs)  -- block-word-requires
+    (λ c. search (block·rules, needs))  -- returns-2
+    (λ c. search (block·rules, needs))  -- returns-3
+    (λ c. search needs)  -- sub-read-statements
+    (λ c κs. search needs)  -- read-statements-requires
+    (λ c. search needs)  -- enum-known-s
+    (λ c. search needs)  -- enum-told-2
+    (λ c. search needs)  -- same-length
+    (λ c. search (block·rules, needs))  -- returns-4
+    (λ c κs. search needs)  -- mark-requires
+    (λ c. search needs)  -- same-length-2
+    (λ c. search (block·rules, needs))  -- returns-5
     ) (λ t. read-for-lts.spec (read-for-callees t) (read-for-at t) read-for.Post
-    (λ c κs. search needs) -- read-expression-requires
-    (λ c. search needs) -- enum-known-r1
-    (λ c. search needs) -- enum-told
-    (λ c. search (for·rules, needs)) -- returns
-    (λ c κs. search needs) -- read-expression-requires-2
-    (λ c. search needs) -- enum-known-r2
-    (λ c. search needs) -- enum-told-2
-    (λ c. search (for·rules, needs)) -- returns-2
-    (λ c κs. search needs) -- read-block-requires
-    (λ c. search needs) -- enum-known-r3
-    (λ c. search needs) -- enum-told-3
-    (λ c. search needs) -- same-length
-    (λ c. search (for·rules, needs)) -- returns-3
-    (λ c. search needs) -- same-length-2
-    (λ c. search (for·rules, needs)) -- returns-4
+    (λ c κs. search needs)  -- read-expression-requires
+    (λ c. search needs)  -- enum-known-r1
+    (λ c. search needs)  -- enum-told
+    (λ c. search (for·rules, needs))  -- returns
+    (λ c κs. search needs)  -- read-expression-requires-2
+    (λ c. search needs)  -- enum-known-r2
+    (λ c. search needs)  -- enum-told-2
+    (λ c. search (for·rules, needs))  -- returns-2
+    (λ c κs. search needs)  -- read-block-requires
+    (λ c. search needs)  -- enum-known-r3
+    (λ c. search needs)  -- enum-told-3
+    (λ c. search needs)  -- same-length
+    (λ c. search (for·rules, needs))  -- returns-3
+    (λ c. search needs)  -- same-length-2
+    (λ c. search (for·rules, needs))  -- returns-4
     ) (λ t. read-if-lts.spec (read-if-callees t) (read-if-at t) read-if.Post
-    (λ c κs. search needs) -- read-expression-requires
-    (λ c. search needs) -- enum-known-r1
-    (λ c. search needs) -- enum-told
-    (λ c. search (if·rules, needs)) -- returns
-    (λ c κs. search needs) -- read-block-requires
-    (λ c. search needs) -- enum-known-r2
-    (λ c. search needs) -- enum-told-2
-    (λ c. search needs) -- same-length
-    (λ c. search (if·rules, needs)) -- returns-2
-    (λ c κs. search needs) -- read-block-requires-2
-    (λ c. search needs) -- enum-known-r3
-    (λ c. search needs) -- enum-told-3
-    (λ c. search needs) -- same-length-2
-    (λ c. search (if·rules, needs)) -- returns-3
-    (λ c. search needs) -- same-length-3
-    (λ c. search (if·rules, needs)) -- returns-4
+    (λ c κs. search needs)  -- read-expression-requires
+    (λ c. search needs)  -- enum-known-r1
+    (λ c. search needs)  -- enum-told
+    (λ c. search (if·rules, needs))  -- returns
+    (λ c κs. search needs)  -- read-block-requires
+    (λ c. search needs)  -- enum-known-r2
+    (λ c. search needs)  -- enum-told-2
+    (λ c. search needs)  -- same-length
+    (λ c. search (if·rules, needs))  -- returns-2
+    (λ c κs. search needs)  -- read-block-requires-2
+    (λ c. search needs)  -- enum-known-r3
+    (λ c. search needs)  -- enum-told-3
+    (λ c. search needs)  -- same-length-2
+    (λ c. search (if·rules, needs))  -- returns-3
+    (λ c. search needs)  -- same-length-3
+    (λ c. search (if·rules, needs))  -- returns-4
     ) (λ t. read-statement-lts.spec (read-statement-callees t) (read-statement-at t) read-statement.Post
-    (λ c κs. search needs) -- word-requires
-    (λ c. search needs) -- enum-known-r
-    (λ c. search needs) -- enum-told
-    (λ c. search (statement·rules, needs)) -- returns
-    (λ c κs. search needs) -- statement-word-requires
-    (λ c. search (statement·rules, needs)) -- returns-2
-    (λ c. search (statement·rules, needs)) -- returns-3
-    (λ c. search needs) -- sub-read-if
-    (λ c κs. search needs) -- read-if-requires
-    (λ c. search needs) -- same-length
-    (λ c. search (statement·rules, needs)) -- returns-4
-    (λ c. search needs) -- sub-read-for
-    (λ c κs. search needs) -- read-for-requires
-    (λ c. search needs) -- same-length-2
-    (λ c. search (statement·rules, needs)) -- returns-5
-    (λ c. search needs) -- sub-read-simple
-    (λ c κs. search needs) -- read-simple-requires
-    (λ c. search (statement·rules, needs)) -- returns-6
+    (λ c κs. search needs)  -- word-requires
+    (λ c. search needs)  -- enum-known-r
+    (λ c. search needs)  -- enum-told
+    (λ c. search (statement·rules, needs))  -- returns
+    (λ c κs. search needs)  -- statement-word-requires
+    (λ c. search (statement·rules, needs))  -- returns-2
+    (λ c. search (statement·rules, needs))  -- returns-3
+    (λ c. search needs)  -- sub-read-if
+    (λ c κs. search needs)  -- read-if-requires
+    (λ c. search needs)  -- same-length
+    (λ c. search (statement·rules, needs))  -- returns-4
+    (λ c. search needs)  -- sub-read-for
+    (λ c κs. search needs)  -- read-for-requires
+    (λ c. search needs)  -- same-length-2
+    (λ c. search (statement·rules, needs))  -- returns-5
+    (λ c. search needs)  -- sub-read-simple
+    (λ c κs. search needs)  -- read-simple-requires
+    (λ c. search (statement·rules, needs))  -- returns-6
     ) λ t. read-statements-lts.spec (read-statements-callees t) (read-statements-at t) read-statements.Post read-statements-Inv-loop read-statements-μ-loop
-    (λ c. search (statements·rules, needs)) -- loop-holds
-    (λ c κs. search needs) -- read-statement-requires
-    (λ c. search needs) -- enum-known-r
-    (λ c. search needs) -- enum-told
-    (λ c. search needs) -- same-length
-    (λ c. search (statements·rules, needs)) -- returns
-    (λ c. search needs) -- add-k
-    (λ c. search needs) -- loop-less
-    (λ c. search (statements·rules, needs)) -- loop-again
-    (λ c. search needs) -- same-length-2
-    (λ c. search (statements·rules, needs)) -- returns-2
+    (λ c. search (statements·rules, needs))  -- loop-holds
+    (λ c κs. search needs)  -- read-statement-requires
+    (λ c. search needs)  -- enum-known-r
+    (λ c. search needs)  -- enum-told
+    (λ c. search needs)  -- same-length
+    (λ c. search (statements·rules, needs))  -- returns
+    (λ c. search needs)  -- add-k
+    (λ c. search needs)  -- loop-less
+    (λ c. search (statements·rules, needs))  -- loop-again
+    (λ c. search needs)  -- same-length-2
+    (λ c. search (statements·rules, needs))  -- returns-2

@@ -16,12 +16,12 @@ abbrev μ-loop : tie.MeasureT-loop
 
 pub clear-spec : {M : Type 1} → statement M
 clear-spec = tie.close (tie.spec Inv-loop μ-loop
-    (λ c. search needs) -- loop-holds
-    (λ c. search needs) -- mul-table
-    (λ c. search needs) -- slice-write-table
-    (λ c. search needs) -- add-i
-    (λ c. search needs) -- loop-less
-    (λ c. (search needs, search needs, search (clear-more, needs))) -- loop-again
-    (λ c. search needs) -- same-length
-    (λ c. search (clear-done, needs)) -- returns
+    (λ c. search needs)  -- loop-holds
+    (λ c. search needs)  -- mul-table
+    (λ c. search needs)  -- slice-write-table
+    (λ c. search needs)  -- add-i
+    (λ c. search needs)  -- loop-less
+    (λ c. (search needs, search needs, search (clear-more, needs)))  -- loop-again
+    (λ c. search needs)  -- same-length
+    (λ c. search (clear-done, needs))  -- returns
     )

@@ -7,8 +7,8 @@ use Rattle.reader.proofs.tables.entry.Tie as tie
 
 pub entry-spec : {M : Type 1} → statement M
 entry-spec = tie.close (tie.spec
-    (λ c. search needs) -- mul-result
-    (λ c. search needs) -- shared-slice-read-result
-    (λ c. search needs) -- returns
-    (λ c. search (entry-beyond, needs)) -- returns-2
+    (λ c. search needs)  -- mul-result
+    (λ c. search needs)  -- shared-slice-read-result
+    (λ c. search needs)  -- returns
+    (λ c. search (entry-beyond, needs))  -- returns-2
     )

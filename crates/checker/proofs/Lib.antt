@@ -1,0 +1,2 @@
+pub mod SortingRules
+pub mod VerdictRules

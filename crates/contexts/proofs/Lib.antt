@@ -1,0 +1,3 @@
+pub mod Sight
+pub mod Skipping
+pub mod Passing

@@ -1,0 +1,4 @@
+pub mod Fine
+pub mod Parts
+pub mod StatementParts
+pub mod Context

@@ -1,0 +1,228 @@
+-- Where a statement or block stands in the compiling of a procedure's body: the rules that it keeps and the variables in use there; and where
+-- its parts stand. Assumes nothing.
+use mathlib.Core.Path.{_≡_, refl, _∙_}
+use mathlib.Core.Bool.{Bool, true, false, _&&_, _||_}
+use mathlib.Core.List.{List, [], _∷_, _++_}
+use Prim.Native.Nat.{ℕ, _+_, _<_, _≤_}
+use native.Mathlib.Omega.{arith}
+use lib.Dec.{eqb}
+use lib.ListN.{length, getD, set, length-append, length-set}
+use lib.Seq.{getD-set-same, getD-set-other}
+use borrow.Author.Tests.{eqb-true, eqb-false}
+use Rattle.definitions.specs.Choice.{pick}
+use Rattle.definitions.specs.Image.{Expression, Statement, conditional, loop, call, Block, step}
+use Rattle.definitions.specs.Sorts.{inside}
+use Rattle.definitions.specs.Labels.{rcAfter, rcAfterBlock, isConstant, constantValue, unbounded, boundsInside}
+use Rattle.definitions.specs.Compiling.{secretBoolean, temporaries, blockTemporaries, compiledStatement, compiledBlock}
+use Rattle.preservation.specs.Tests.{or-one, or-zero, or-left, or-right}
+use Rattle.preservation.specs.Contexts.{rc-rises-block, rc-again}
+use Rattle.preservation.specs.Layouts.{Layout, Scope, Allocation, rcAfterAt, rcAfterBlockAt, secretAt}
+use Rattle.preservation.specs.Rules.{StatementRules, BlockRules, block-first, block-rest, if-then, if-else, loop-variable, loop-body}
+
+-- the temporaries of a statement and of a block, by their type words, and their number
+abbrev pub temporariesAt : Layout → Bool → Bool → Statement → List ℕ
+temporariesAt L pc rc s = temporaries (L .procedures) (L .arrays) (L .types) pc rc s
+
+abbrev pub blockTemporariesAt : Layout → Bool → Bool → Block → List ℕ
+blockTemporariesAt L pc rc b = blockTemporaries (L .procedures) (L .arrays) (L .types) pc rc b
+
+abbrev pub sizeOf : Layout → Bool → Bool → Statement → ℕ
+sizeOf L pc rc s = length (temporariesAt L pc rc s)
+
+abbrev pub sizeOfBlock : Layout → Bool → Bool → Block → ℕ
+sizeOfBlock L pc rc b = length (blockTemporariesAt L pc rc b)
+
+-- a statement and a block, compiled: under pc with its arm's variable and rc, with temporaries from k on
+abbrev pub code : Layout → Statement → Bool → ℕ → Bool → ℕ → Block
+code L s pc arm rc k = compiledStatement (L .procedures) (L .arrays) (L .types) (L .first) (L .rv) s pc arm rc k
+
+abbrev pub codes : Layout → Block → Bool → ℕ → Bool → ℕ → Block
+codes L b pc arm rc k = compiledBlock (L .procedures) (L .arrays) (L .types) (L .first) (L .rv) b pc arm rc k
+
+-- a statement that stands there keeps the rules, and has its variables
+pub record StatementAt (L : Layout) (S : Scope) (pc : Bool) (arm : ℕ) (rc : Bool) (k l : ℕ) (s : Statement) : Type 0 where
+  pub rules : StatementRules L (S .marks) (S .bounds) pc rc l s
+  pub allocation : Allocation L S pc arm rc k (sizeOf L pc rc s) (rcAfterAt L pc rc s)
+
+pub record BlockAt (L : Layout) (S : Scope) (pc : Bool) (arm : ℕ) (rc : Bool) (k : ℕ) (b : Block) : Type 0 where
+  pub rules : BlockRules L (S .marks) (S .bounds) pc rc b
+  pub allocation : Allocation L S pc arm rc k (sizeOfBlock L pc rc b) (rcAfterBlockAt L pc rc b)
+
+-- a later part, with fewer temporaries
+pub allocation-part : {L : Layout} {S : Scope} {pc : Bool} {arm : ℕ} {rc rc′ : Bool} {k k′ size size′ : ℕ} {end end′ : Bool}
+    → Allocation L S pc arm rc k size end → k ≤ k′ → k′ + size′ ≤ k + size → (rc′ ≡ true → L .defers ≡ true) → (end′ ≡ true → L .defers ≡ true)
+    → Allocation L S pc arm rc′ k′ size′ end′
+allocation-part {S = S} {k = k} {k′} {size} {size′} h p q b e =
+    let f = h .free in
+    let r = h .room in
+    record {
+      low = h .low;
+      few = h .few;
+      marksSize = h .marksSize;
+      boundsSize = h .boundsSize;
+      tied = h .tied;
+      base = h .base;
+      returns = h .returns;
+      armed = h .armed;
+      free = omega arith;
+      room = omega arith;
+      begins = b;
+      ends = e;
+    }
+
+-- more variables are in use
+abbrev pub widened : Scope → ℕ → Scope
+widened S limit = record { marks = S .marks; bounds = S .bounds; limit = limit }
+
+-- an arm of a secret if, under a new variable
+pub allocation-arm : {L : Layout} {S : Scope} {pc : Bool} {arm : ℕ} {rc : Bool} {k k′ size size′ : ℕ} {end end′ : Bool}
+    → Allocation L S pc arm rc k size end → (new : ℕ) → k ≤ new → new < k + 2 → k + 2 ≤ k′ → k′ + size′ ≤ k + size → (end′ ≡ true → L .defers ≡ true)
+    → Allocation L (widened S (k + 2)) true new rc k′ size′ end′
+allocation-arm {L} {S} {k = k} {k′} {size} {size′} h new p q u v e =
+    let f = h .free in
+    let r = h .room in
+    let b = h .base in
+    record {
+      low = h .low;
+      few = h .few;
+      marksSize = h .marksSize;
+      boundsSize = h .boundsSize;
+      tied = h .tied;
+      base = omega arith;
+      returns = λ d. let g = h .returns d in omega arith;
+      armed = λ _. (q, λ x i j. (let g = h .low x i in omega arith), λ d j. (let g = h .returns d in omega arith), λ d j. (let g = h .returns d in omega arith));
+      free = u;
+      room = omega arith;
+      begins = h .begins;
+      ends = e;
+    }
+
+module _ {L : Layout} {S : Scope} {pc : Bool} {arm : ℕ} {rc : Bool} {k : ℕ} where
+  pub first-statement : {l : ℕ} {s : Statement} {b : Block} → BlockAt L S pc arm rc k (step l s b) → StatementAt L S pc arm rc k l s
+  unfolding rcAfterBlock blockTemporaries
+  first-statement {l} {s} {b} h =
+      let e = length-append (temporariesAt L pc rc s) (blockTemporariesAt L pc (rcAfterAt L pc rc s) b) in
+      record {
+        rules = block-first (h .rules);
+        allocation = allocation-part (h .allocation) (omega arith) (omega arith) (h .allocation .begins)
+            (λ q. h .allocation .ends (rc-rises-block (L .types) (L .arrays) b pc (rcAfterAt L pc rc s) q));
+      }
+
+  pub rest-block : {l : ℕ} {s : Statement} {b : Block} → BlockAt L S pc arm rc k (step l s b)
+      → BlockAt L S pc arm (rcAfterAt L pc rc s) (k + sizeOf L pc rc s) b
+  unfolding rcAfterBlock blockTemporaries
+  rest-block {l} {s} {b} h =
+      let e = length-append (temporariesAt L pc rc s) (blockTemporariesAt L pc (rcAfterAt L pc rc s) b) in
+      record {
+        rules = block-rest (h .rules);
+        allocation = allocation-part (h .allocation) (omega arith) (omega arith)
+            (λ q. h .allocation .ends (rc-rises-block (L .types) (L .arrays) b pc (rcAfterAt L pc rc s) q)) (h .allocation .ends);
+      }
+
+module _ {L : Layout} {S : Scope} {pc : Bool} {arm : ℕ} {rc : Bool} {k l : ℕ} {c : Expression} {a b : Block} (h : StatementAt L S pc arm rc k l (conditional c a b)) where
+  if-size : (s : Bool) → secretAt L c ≡ s
+      → sizeOf L pc rc (conditional c a b) ≡ pick s 2 0 + (sizeOfBlock L (pc || s) rc a + sizeOfBlock L (pc || s) rc b)
+  unfolding temporaries
+  if-size true e =
+      rw (
+        e,
+        length-append (secretBoolean ∷ secretBoolean ∷ []) (blockTemporariesAt L (pc || true) rc a ++ blockTemporariesAt L (pc || true) rc b),
+        length-append (blockTemporariesAt L (pc || true) rc a) (blockTemporariesAt L (pc || true) rc b),
+      ) refl
+  if-size false e = rw (e, length-append (blockTemporariesAt L (pc || false) rc a) (blockTemporariesAt L (pc || false) rc b)) (omega arith)
+
+  if-end-then : (s : Bool) → secretAt L c ≡ s → rcAfterBlockAt L (pc || s) rc a ≡ true → L .defers ≡ true
+  unfolding rcAfter
+  if-end-then s e q = h .allocation .ends (or-left (rcAfterBlockAt L (pc || secretAt L c) rc a) (rcAfterBlockAt L (pc || secretAt L c) rc b) (rw e q))
+
+  if-end-else : (s : Bool) → secretAt L c ≡ s → rcAfterBlockAt L (pc || s) rc b ≡ true → L .defers ≡ true
+  unfolding rcAfter
+  if-end-else s e q = h .allocation .ends (or-right (rcAfterBlockAt L (pc || secretAt L c) rc a) (rcAfterBlockAt L (pc || secretAt L c) rc b) (rw e q))
+
+  pub secret-then : secretAt L c ≡ true → BlockAt L (widened S (k + 2)) true k rc (k + 2) a
+  secret-then e =
+      let n = if-size true e in
+      let p : (pc || true) ≡ true = or-one pc in
+      let o : BlockRules L (S .marks) (S .bounds) (pc || true) rc a = rw e at (if-then (h .rules)) in
+      let z : Allocation L (widened S (k + 2)) true k rc (k + 2) (sizeOfBlock L (pc || true) rc a) (rcAfterBlockAt L (pc || true) rc a)
+      = allocation-arm (h .allocation) k (omega arith) (omega arith) (omega arith) (omega arith) (if-end-then true e) in
+      record { rules = rw p at o; allocation = rw p at z }
+
+  pub secret-else : secretAt L c ≡ true → BlockAt L (widened S (k + 2)) true (k + 1) rc (k + 2 + sizeOfBlock L true rc a) b
+  secret-else e =
+      let n = if-size true e in
+      let p : (pc || true) ≡ true = or-one pc in
+      let o : BlockRules L (S .marks) (S .bounds) (pc || true) rc b = rw e at (if-else (h .rules)) in
+      let z : Allocation L (widened S (k + 2)) true (k + 1) rc (k + 2 + sizeOfBlock L (pc || true) rc a) (sizeOfBlock L (pc || true) rc b) (rcAfterBlockAt L (pc || true) rc b)
+      = allocation-arm (h .allocation) (k + 1) (omega arith) (omega arith) (omega arith) (omega arith) (if-end-else true e) in
+      record { rules = rw p at o; allocation = rw p at z }
+
+  pub public-then : secretAt L c ≡ false → BlockAt L S pc arm rc k a
+  public-then e =
+      let n = if-size false e in
+      let p : (pc || false) ≡ pc = or-zero pc in
+      let o : BlockRules L (S .marks) (S .bounds) (pc || false) rc a = rw e at (if-then (h .rules)) in
+      let z : Allocation L S pc arm rc k (sizeOfBlock L (pc || false) rc a) (rcAfterBlockAt L (pc || false) rc a)
+      = allocation-part (h .allocation) (omega arith) (omega arith) (h .allocation .begins) (if-end-then false e) in
+      record { rules = rw p at o; allocation = rw p at z }
+
+  pub public-else : secretAt L c ≡ false → BlockAt L S pc arm rc (k + sizeOfBlock L pc rc a) b
+  public-else e =
+      let n = if-size false e in
+      let p : (pc || false) ≡ pc = or-zero pc in
+      let o : BlockRules L (S .marks) (S .bounds) (pc || false) rc b = rw e at (if-else (h .rules)) in
+      let z : Allocation L S pc arm rc (k + sizeOfBlock L (pc || false) rc a) (sizeOfBlock L (pc || false) rc b) (rcAfterBlockAt L (pc || false) rc b)
+      = allocation-part (h .allocation) (omega arith) (omega arith) (h .allocation .begins) (if-end-else false e) in
+      record { rules = rw p at o; allocation = rw p at z }
+
+-- inside a for over x
+abbrev pub entered : Scope → ℕ → Expression → Expression → Scope
+entered S x f g = record { marks = set (S .marks) x inside; bounds = boundsInside (S .bounds) x f g; limit = S .limit }
+
+-- a for's block
+pub loop-block : {L : Layout} {S : Scope} {pc : Bool} {arm : ℕ} {rc : Bool} {k l x : ℕ} {f g : Expression} {b : Block} → StatementAt L S pc arm rc k l (loop x f g b)
+    → BlockAt L (entered S x f g) pc arm (rcAfterBlockAt L pc rc b) k b
+unfolding rcAfter temporaries
+loop-block {L} {S} {pc} {arm} {rc} {k} {l} {x} {f} {g} {b} h =
+    let z = h .allocation in
+    let v = pick (isConstant f && isConstant g) (constantValue g) unbounded in
+    let i = loop-variable (h .rules) in
+    record {
+      rules = loop-body (h .rules);
+      allocation = record {
+        low = z .low;
+        few = z .few;
+        marksSize = length-set (S .marks) x inside ∙ z .marksSize;
+        boundsSize = length-set (S .bounds) x v ∙ z .boundsSize;
+        tied = λ y. go y (eqb y x) refl;
+        base = z .base;
+        returns = z .returns;
+        armed = z .armed;
+        free = z .free;
+        room = z .room;
+        begins = z .ends;
+        ends = λ q. z .ends (rc-again (L .types) (L .arrays) b pc rc q);
+      };
+    }
+  where
+    go : (y : ℕ) (t : Bool) → eqb y x ≡ t → getD (boundsInside (S .bounds) x f g) y unbounded < 65536 → (y < length (L .types)) × (getD (set (S .marks) x inside) y 0 ≡ inside)
+    go y true e q =
+        let i = loop-variable (h .rules) .0 in
+        let j = h .allocation .few in
+        let m = h .allocation .marksSize in
+        rw (eqb-true y x e) (i, getD-set-same (S .marks) x inside 0 (omega arith))
+    go y false e q =
+        let n = eqb-false y x e in
+        let r : getD (S .bounds) y unbounded < 65536 = rw (getD-set-other (S .bounds) x y (pick (isConstant f && isConstant g) (constantValue g) unbounded) unbounded n) at q in
+        rw (getD-set-other (S .marks) x y inside 0 n) (h .allocation .tied y r)
+
+-- a for's block among the variables in use around it
+pub loop-allocation : {L : Layout} {S : Scope} {pc : Bool} {arm : ℕ} {rc : Bool} {k l x : ℕ} {f g : Expression} {b : Block} → StatementAt L S pc arm rc k l (loop x f g b)
+    → Allocation L S pc arm (rcAfterBlockAt L pc rc b) k (sizeOf L pc rc (loop x f g b)) (rcAfterBlockAt L pc rc b)
+unfolding rcAfter
+loop-allocation h = allocation-part (h .allocation) (omega arith) (omega arith) (h .allocation .ends) (h .allocation .ends)
+
+-- a call in a secret context has a temporary for its result
+pub call-room : {L : Layout} {S : Scope} {pc : Bool} {arm : ℕ} {rc : Bool} {k l f x : ℕ} {es : List Expression} → StatementAt L S pc arm rc k l (call f x es) → (pc || rc) ≡ true → k + 1 ≤ 255
+unfolding temporaries
+call-room h s = rw s at (h .allocation .room)

@@ -1,0 +1,1 @@
+// Laws only: a compiled procedure ends as its source ends (specs/).
