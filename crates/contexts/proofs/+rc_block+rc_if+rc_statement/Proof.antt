@@ -59,193 +59,66 @@ rc-block-Inv-loop image types arrays params at pc rc me level count j₀ a₀ r�
 abbrev rc-block-μ-loop : rc-block-lts.MeasureT-loop
 rc-block-μ-loop image types arrays params at pc rc me level count j₀ a₀ r₀ j a r = count - j
 
--- src/lib.rt:160:17
-rc-block-mul-count : (t : ℕ) → rc-block-lts.Need-mul-count (rc-statement-below t, rc-statement.Post) (rc-block-at t) rc-block.Post rc-block-Inv-loop rc-block-μ-loop
-rc-block-mul-count t c = search needs
+abbrev rc-block-callees : ℕ → rc-block-lts.Claims
+rc-block-callees t =
+    (rc-statement-below t, rc-statement.Post)
 
--- src/lib.rt:160:17
-rc-block-shared-slice-read-count : (t : ℕ) → rc-block-lts.Need-shared-slice-read-count (rc-statement-below t, rc-statement.Post) (rc-block-at t) rc-block.Post rc-block-Inv-loop rc-block-μ-loop
-rc-block-shared-slice-read-count t c = search needs
+abbrev rc-if-callees : ℕ → rc-if-lts.Claims
+rc-if-callees t =
+    (secret-expression-reads.Asked, secret-expression-reads.Learnt, rc-block-below t, rc-block.Post)
 
--- src/lib.rt:162:17
-rc-block-add-a : (t : ℕ) → rc-block-lts.Need-add-a (rc-statement-below t, rc-statement.Post) (rc-block-at t) rc-block.Post rc-block-Inv-loop rc-block-μ-loop
-rc-block-add-a t c = search needs
-
--- src/lib.rt:164:5
-rc-block-loop-holds : (t : ℕ) → rc-block-lts.Need-loop-holds (rc-statement-below t, rc-statement.Post) (rc-block-at t) rc-block.Post rc-block-Inv-loop rc-block-μ-loop
-rc-block-loop-holds t c = (search needs, search block-ready, search block-begin)
-
--- src/lib.rt:165:74
-rc-block-sub-rc-statement : (t : ℕ) → rc-block-lts.Need-sub-rc-statement (rc-statement-below t, rc-statement.Post) (rc-block-at t) rc-block.Post rc-block-Inv-loop rc-block-μ-loop
-rc-block-sub-rc-statement t c = search needs
-
--- src/lib.rt:165:13
-rc-block-rc-statement-requires : (t : ℕ) → rc-block-lts.Need-rc-statement-requires (rc-statement-below t, rc-statement.Post) (rc-block-at t) rc-block.Post rc-block-Inv-loop rc-block-μ-loop
-rc-block-rc-statement-requires t c κs = (search needs, block-fine _ _ _ _ _ _ _ (c .before .loop .inv .1) (c .loop-test .taken) (c .before .before .before .before .before .before .before .pre .1 .2))
-
--- src/lib.rt:168:9
-rc-block-add-j : (t : ℕ) → rc-block-lts.Need-add-j (rc-statement-below t, rc-statement.Post) (rc-block-at t) rc-block.Post rc-block-Inv-loop rc-block-μ-loop
-rc-block-add-j t c = search needs
-
--- src/lib.rt:164:5
-rc-block-loop-less : (t : ℕ) → rc-block-lts.Need-loop-less (rc-statement-below t, rc-statement.Post) (rc-block-at t) rc-block.Post rc-block-Inv-loop rc-block-μ-loop
-rc-block-loop-less t c = search needs
-
--- src/lib.rt:164:5
-rc-block-loop-again : (t : ℕ) → rc-block-lts.Need-loop-again (rc-statement-below t, rc-statement.Post) (rc-block-at t) rc-block.Post rc-block-Inv-loop rc-block-μ-loop
-rc-block-loop-again t c = (search needs, search block-again, search block-more)
-
--- src/lib.rt:156:1
-rc-block-returns : (t : ℕ) → rc-block-lts.Need-returns (rc-statement-below t, rc-statement.Post) (rc-block-at t) rc-block.Post rc-block-Inv-loop rc-block-μ-loop
-rc-block-returns t c = search (block-done, needs)
-
--- src/lib.rt:146:53
-rc-if-add-secret-expression : (t : ℕ) → rc-if-lts.Need-add-secret-expression (secret-expression-reads.Asked, secret-expression-reads.Learnt, rc-block-below t, rc-block.Post) (rc-if-at t) rc-if.Post
-rc-if-add-secret-expression t c = search needs
-
--- src/lib.rt:146:61
-rc-if-sub-secret-expression : (t : ℕ) → rc-if-lts.Need-sub-secret-expression (secret-expression-reads.Asked, secret-expression-reads.Learnt, rc-block-below t, rc-block.Post) (rc-if-at t) rc-if.Post
-rc-if-sub-secret-expression t c = search needs
-
--- src/lib.rt:146:9
-rc-if-secret-expression-requires : (t : ℕ) → rc-if-lts.Need-secret-expression-requires (secret-expression-reads.Asked, secret-expression-reads.Learnt, rc-block-below t, rc-block.Post) (rc-if-at t) rc-if.Post
-rc-if-secret-expression-requires t c κs = fine-if _ _ _ _ _ (c .before .before .before .before .pre .1 .0 .3) (c .before .before .before .before .pre .1 .1)
-
--- src/lib.rt:149:66
-rc-if-sub-rc-block : (t : ℕ) → rc-if-lts.Need-sub-rc-block (secret-expression-reads.Asked, secret-expression-reads.Learnt, rc-block-below t, rc-block.Post) (rc-if-at t) rc-if.Post
-rc-if-sub-rc-block t c = search needs
-
--- src/lib.rt:149:9
-rc-if-rc-block-requires : (t : ℕ) → rc-if-lts.Need-rc-block-requires (secret-expression-reads.Asked, secret-expression-reads.Learnt, rc-block-below t, rc-block.Post) (rc-if-at t) rc-if.Post
-rc-if-rc-block-requires t c κs = (search needs, then-fine _ _ true true _ _ _ _ _ (c .before .before .before .before .before .before .pre .1 .0 .3) (c .before .before .before .before .before .before .pre .1 .1) _ (c .before .secret-expression .ensures) (c .before .before .before .before .before .before .pre .1 .0 .2))
-
--- src/lib.rt:151:66
-rc-if-sub-rc-block-2 : (t : ℕ) → rc-if-lts.Need-sub-rc-block-2 (secret-expression-reads.Asked, secret-expression-reads.Learnt, rc-block-below t, rc-block.Post) (rc-if-at t) rc-if.Post
-rc-if-sub-rc-block-2 t c = search needs
-
--- src/lib.rt:151:9
-rc-if-rc-block-requires-2 : (t : ℕ) → rc-if-lts.Need-rc-block-requires-2 (secret-expression-reads.Asked, secret-expression-reads.Learnt, rc-block-below t, rc-block.Post) (rc-if-at t) rc-if.Post
-rc-if-rc-block-requires-2 t c κs = (search needs, else-fine _ _ true _ _ _ _ _ _ (c .before .before .before .before .before .before .before .pre .1 .0 .3) (c .before .before .before .before .before .before .before .pre .1 .1) _ (c .before .before .secret-expression .ensures) _ _ (c .rc-block .ensures) (c .before .before .before .before .before .before .before .pre .1 .0 .2))
-
--- src/lib.rt:142:1
-rc-if-returns : (t : ℕ) → rc-if-lts.Need-returns (secret-expression-reads.Asked, secret-expression-reads.Learnt, rc-block-below t, rc-block.Post) (rc-if-at t) rc-if.Post
-rc-if-returns t c = pass-if _ _ _ _ _ _ _ _ _ (c .before .before .before .before .before .before .before .before .before .before .pre .1 .0 .3) (c .before .before .before .before .before .before .before .before .before .before .pre .1 .1) _ (c .before .before .before .before .before .secret-expression .ensures) _ _ (c .before .before .before .rc-block .ensures) (c .before .before .rc-block2 .ensures)
-
--- src/lib.rt:113:13
-rc-statement-mul-w : (t : ℕ) → rc-statement-lts.Need-mul-w (secret-expression-reads.Asked, secret-expression-reads.Learnt, secret-two-reads.Asked, secret-two-reads.Learnt, rc-if-below t, rc-if.Post, rc-block-below t, rc-block.Post, skip-arguments-reads.Asked, skip-arguments-reads.Learnt) (rc-statement-at t) rc-statement.Post
-rc-statement-mul-w t c = search needs
-
--- src/lib.rt:113:13
-rc-statement-shared-slice-read-w : (t : ℕ) → rc-statement-lts.Need-shared-slice-read-w (secret-expression-reads.Asked, secret-expression-reads.Learnt, secret-two-reads.Asked, secret-two-reads.Learnt, rc-if-below t, rc-if.Post, rc-block-below t, rc-block.Post, skip-arguments-reads.Asked, skip-arguments-reads.Learnt) (rc-statement-at t) rc-statement.Post
-rc-statement-shared-slice-read-w t c = search needs
-
--- src/lib.rt:116:57
-rc-statement-add-secret-expression : (t : ℕ) → rc-statement-lts.Need-add-secret-expression (secret-expression-reads.Asked, secret-expression-reads.Learnt, secret-two-reads.Asked, secret-two-reads.Learnt, rc-if-below t, rc-if.Post, rc-block-below t, rc-block.Post, skip-arguments-reads.Asked, skip-arguments-reads.Learnt) (rc-statement-at t) rc-statement.Post
-rc-statement-add-secret-expression t c = search needs
-
--- src/lib.rt:116:65
-rc-statement-sub-secret-expression : (t : ℕ) → rc-statement-lts.Need-sub-secret-expression (secret-expression-reads.Asked, secret-expression-reads.Learnt, secret-two-reads.Asked, secret-two-reads.Learnt, rc-if-below t, rc-if.Post, rc-block-below t, rc-block.Post, skip-arguments-reads.Asked, skip-arguments-reads.Learnt) (rc-statement-at t) rc-statement.Post
-rc-statement-sub-secret-expression t c = search needs
-
--- src/lib.rt:116:13
-rc-statement-secret-expression-requires : (t : ℕ) → rc-statement-lts.Need-secret-expression-requires (secret-expression-reads.Asked, secret-expression-reads.Learnt, secret-two-reads.Asked, secret-two-reads.Learnt, rc-if-below t, rc-if.Post, rc-block-below t, rc-block.Post, skip-arguments-reads.Asked, skip-arguments-reads.Learnt) (rc-statement-at t) rc-statement.Post
-rc-statement-secret-expression-requires t c κs = fine-assign _ _ _ _ _ (c .before .before .before .before .before .before .pre .1 .3) (c .if1 .taken)
-
--- src/lib.rt:117:9
-rc-statement-returns : (t : ℕ) → rc-statement-lts.Need-returns (secret-expression-reads.Asked, secret-expression-reads.Learnt, secret-two-reads.Asked, secret-two-reads.Learnt, rc-if-below t, rc-if.Post, rc-block-below t, rc-block.Post, skip-arguments-reads.Asked, skip-arguments-reads.Learnt) (rc-statement-at t) rc-statement.Post
-rc-statement-returns t c = search (pass·rules, needs)
-
--- src/lib.rt:120:50
-rc-statement-add-secret-two : (t : ℕ) → rc-statement-lts.Need-add-secret-two (secret-expression-reads.Asked, secret-expression-reads.Learnt, secret-two-reads.Asked, secret-two-reads.Learnt, rc-if-below t, rc-if.Post, rc-block-below t, rc-block.Post, skip-arguments-reads.Asked, skip-arguments-reads.Learnt) (rc-statement-at t) rc-statement.Post
-rc-statement-add-secret-two t c = search needs
-
--- src/lib.rt:120:58
-rc-statement-sub-secret-two : (t : ℕ) → rc-statement-lts.Need-sub-secret-two (secret-expression-reads.Asked, secret-expression-reads.Learnt, secret-two-reads.Asked, secret-two-reads.Learnt, rc-if-below t, rc-if.Post, rc-block-below t, rc-block.Post, skip-arguments-reads.Asked, skip-arguments-reads.Learnt) (rc-statement-at t) rc-statement.Post
-rc-statement-sub-secret-two t c = search needs
-
--- src/lib.rt:120:13
-rc-statement-secret-two-requires : (t : ℕ) → rc-statement-lts.Need-secret-two-requires (secret-expression-reads.Asked, secret-expression-reads.Learnt, secret-two-reads.Asked, secret-two-reads.Learnt, rc-if-below t, rc-if.Post, rc-block-below t, rc-block.Post, skip-arguments-reads.Asked, skip-arguments-reads.Learnt) (rc-statement-at t) rc-statement.Post
-rc-statement-secret-two-requires t c κs = fine-store _ _ _ _ _ (c .before .before .before .before .before .before .before .pre .1 .3) (c .if2 .taken)
-
--- src/lib.rt:121:9
-rc-statement-returns-2 : (t : ℕ) → rc-statement-lts.Need-returns-2 (secret-expression-reads.Asked, secret-expression-reads.Learnt, secret-two-reads.Asked, secret-two-reads.Learnt, rc-if-below t, rc-if.Post, rc-block-below t, rc-block.Post, skip-arguments-reads.Asked, skip-arguments-reads.Learnt) (rc-statement-at t) rc-statement.Post
-rc-statement-returns-2 t c = search (pass·rules, needs)
-
--- src/lib.rt:124:9
-rc-statement-rc-if-requires : (t : ℕ) → rc-statement-lts.Need-rc-if-requires (secret-expression-reads.Asked, secret-expression-reads.Learnt, secret-two-reads.Asked, secret-two-reads.Learnt, rc-if-below t, rc-if.Post, rc-block-below t, rc-block.Post, skip-arguments-reads.Asked, skip-arguments-reads.Learnt) (rc-statement-at t) rc-statement.Post
-rc-statement-rc-if-requires t c κs = search needs
-
--- src/lib.rt:124:9
-rc-statement-returns-3 : (t : ℕ) → rc-statement-lts.Need-returns-3 (secret-expression-reads.Asked, secret-expression-reads.Learnt, secret-two-reads.Asked, secret-two-reads.Learnt, rc-if-below t, rc-if.Post, rc-block-below t, rc-block.Post, skip-arguments-reads.Asked, skip-arguments-reads.Learnt) (rc-statement-at t) rc-statement.Post
-rc-statement-returns-3 t c = search (pass·rules, needs)
-
--- src/lib.rt:127:50
-rc-statement-add-secret-two-2 : (t : ℕ) → rc-statement-lts.Need-add-secret-two-2 (secret-expression-reads.Asked, secret-expression-reads.Learnt, secret-two-reads.Asked, secret-two-reads.Learnt, rc-if-below t, rc-if.Post, rc-block-below t, rc-block.Post, skip-arguments-reads.Asked, skip-arguments-reads.Learnt) (rc-statement-at t) rc-statement.Post
-rc-statement-add-secret-two-2 t c = search needs
-
--- src/lib.rt:127:58
-rc-statement-sub-secret-two-2 : (t : ℕ) → rc-statement-lts.Need-sub-secret-two-2 (secret-expression-reads.Asked, secret-expression-reads.Learnt, secret-two-reads.Asked, secret-two-reads.Learnt, rc-if-below t, rc-if.Post, rc-block-below t, rc-block.Post, skip-arguments-reads.Asked, skip-arguments-reads.Learnt) (rc-statement-at t) rc-statement.Post
-rc-statement-sub-secret-two-2 t c = search needs
-
--- src/lib.rt:127:13
-rc-statement-secret-two-requires-2 : (t : ℕ) → rc-statement-lts.Need-secret-two-requires-2 (secret-expression-reads.Asked, secret-expression-reads.Learnt, secret-two-reads.Asked, secret-two-reads.Learnt, rc-if-below t, rc-if.Post, rc-block-below t, rc-block.Post, skip-arguments-reads.Asked, skip-arguments-reads.Learnt) (rc-statement-at t) rc-statement.Post
-rc-statement-secret-two-requires-2 t c κs = fine-bounds _ _ _ _ _ (c .before .before .before .before .before .before .before .before .before .pre .1 .3) (c .if4 .taken)
-
--- src/lib.rt:129:70
-rc-statement-sub-rc-block : (t : ℕ) → rc-statement-lts.Need-sub-rc-block (secret-expression-reads.Asked, secret-expression-reads.Learnt, secret-two-reads.Asked, secret-two-reads.Learnt, rc-if-below t, rc-if.Post, rc-block-below t, rc-block.Post, skip-arguments-reads.Asked, skip-arguments-reads.Learnt) (rc-statement-at t) rc-statement.Post
-rc-statement-sub-rc-block t c = search needs
-
--- src/lib.rt:129:9
-rc-statement-rc-block-requires : (t : ℕ) → rc-statement-lts.Need-rc-block-requires (secret-expression-reads.Asked, secret-expression-reads.Learnt, secret-two-reads.Asked, secret-two-reads.Learnt, rc-if-below t, rc-if.Post, rc-block-below t, rc-block.Post, skip-arguments-reads.Asked, skip-arguments-reads.Learnt) (rc-statement-at t) rc-statement.Post
-rc-statement-rc-block-requires t c κs = (search needs, for-fine _ _ true true _ _ _ _ _ (c .before .before .before .before .before .before .before .before .before .before .pre .1 .3) _ (c .before .if4 .taken) (c .before .before .before .before .before .before .before .before .before .before .pre .1 .2) (c .secret-two2 .ensures))
-
--- src/lib.rt:129:9
-rc-statement-returns-4 : (t : ℕ) → rc-statement-lts.Need-returns-4 (secret-expression-reads.Asked, secret-expression-reads.Learnt, secret-two-reads.Asked, secret-two-reads.Learnt, rc-if-below t, rc-if.Post, rc-block-below t, rc-block.Post, skip-arguments-reads.Asked, skip-arguments-reads.Learnt) (rc-statement-at t) rc-statement.Post
-rc-statement-returns-4 t c = search (pass·rules, needs)
-
--- src/lib.rt:132:57
-rc-statement-add-secret-expression-2 : (t : ℕ) → rc-statement-lts.Need-add-secret-expression-2 (secret-expression-reads.Asked, secret-expression-reads.Learnt, secret-two-reads.Asked, secret-two-reads.Learnt, rc-if-below t, rc-if.Post, rc-block-below t, rc-block.Post, skip-arguments-reads.Asked, skip-arguments-reads.Learnt) (rc-statement-at t) rc-statement.Post
-rc-statement-add-secret-expression-2 t c = search needs
-
--- src/lib.rt:132:65
-rc-statement-sub-secret-expression-2 : (t : ℕ) → rc-statement-lts.Need-sub-secret-expression-2 (secret-expression-reads.Asked, secret-expression-reads.Learnt, secret-two-reads.Asked, secret-two-reads.Learnt, rc-if-below t, rc-if.Post, rc-block-below t, rc-block.Post, skip-arguments-reads.Asked, skip-arguments-reads.Learnt) (rc-statement-at t) rc-statement.Post
-rc-statement-sub-secret-expression-2 t c = search needs
-
--- src/lib.rt:132:13
-rc-statement-secret-expression-requires-2 : (t : ℕ) → rc-statement-lts.Need-secret-expression-requires-2 (secret-expression-reads.Asked, secret-expression-reads.Learnt, secret-two-reads.Asked, secret-two-reads.Learnt, rc-if-below t, rc-if.Post, rc-block-below t, rc-block.Post, skip-arguments-reads.Asked, skip-arguments-reads.Learnt) (rc-statement-at t) rc-statement.Post
-rc-statement-secret-expression-requires-2 t c κs = fine-return _ _ _ _ _ (c .before .before .before .before .before .before .before .before .before .before .pre .1 .3) (c .if5 .taken)
-
--- src/lib.rt:133:9
-rc-statement-returns-5 : (t : ℕ) → rc-statement-lts.Need-returns-5 (secret-expression-reads.Asked, secret-expression-reads.Learnt, secret-two-reads.Asked, secret-two-reads.Learnt, rc-if-below t, rc-if.Post, rc-block-below t, rc-block.Post, skip-arguments-reads.Asked, skip-arguments-reads.Learnt) (rc-statement-at t) rc-statement.Post
-rc-statement-returns-5 t c = search (pass·rules, needs)
-
--- src/lib.rt:135:13
-rc-statement-cast-f : (t : ℕ) → rc-statement-lts.Need-cast-f (secret-expression-reads.Asked, secret-expression-reads.Learnt, secret-two-reads.Asked, secret-two-reads.Learnt, rc-if-below t, rc-if.Post, rc-block-below t, rc-block.Post, skip-arguments-reads.Asked, skip-arguments-reads.Learnt) (rc-statement-at t) rc-statement.Post
-rc-statement-cast-f t c = search needs
-
--- src/lib.rt:136:13
-rc-statement-mul-n : (t : ℕ) → rc-statement-lts.Need-mul-n (secret-expression-reads.Asked, secret-expression-reads.Learnt, secret-two-reads.Asked, secret-two-reads.Learnt, rc-if-below t, rc-if.Post, rc-block-below t, rc-block.Post, skip-arguments-reads.Asked, skip-arguments-reads.Learnt) (rc-statement-at t) rc-statement.Post
-rc-statement-mul-n t c = search needs
-
--- src/lib.rt:136:13
-rc-statement-shared-slice-read-n : (t : ℕ) → rc-statement-lts.Need-shared-slice-read-n (secret-expression-reads.Asked, secret-expression-reads.Learnt, secret-two-reads.Asked, secret-two-reads.Learnt, rc-if-below t, rc-if.Post, rc-block-below t, rc-block.Post, skip-arguments-reads.Asked, skip-arguments-reads.Learnt) (rc-statement-at t) rc-statement.Post
-rc-statement-shared-slice-read-n t c = omega (arith, fine-called _ _ _ _ _ (c .before .before .before .before .before .before .before .before .before .before .before .pre .1 .3) (c .before .before .before .before .before .if1 .left) (c .before .before .before .before .if2 .left) (c .before .before .before .if3 .left) (c .before .before .if4 .left) (c .before .if5 .left))
-
--- src/lib.rt:137:56
-rc-statement-add-skip-arguments : (t : ℕ) → rc-statement-lts.Need-add-skip-arguments (secret-expression-reads.Asked, secret-expression-reads.Learnt, secret-two-reads.Asked, secret-two-reads.Learnt, rc-if-below t, rc-if.Post, rc-block-below t, rc-block.Post, skip-arguments-reads.Asked, skip-arguments-reads.Learnt) (rc-statement-at t) rc-statement.Post
-rc-statement-add-skip-arguments t c = search needs
-
--- src/lib.rt:137:64
-rc-statement-sub-skip-arguments : (t : ℕ) → rc-statement-lts.Need-sub-skip-arguments (secret-expression-reads.Asked, secret-expression-reads.Learnt, secret-two-reads.Asked, secret-two-reads.Learnt, rc-if-below t, rc-if.Post, rc-block-below t, rc-block.Post, skip-arguments-reads.Asked, skip-arguments-reads.Learnt) (rc-statement-at t) rc-statement.Post
-rc-statement-sub-skip-arguments t c = search needs
-
--- src/lib.rt:137:9
-rc-statement-skip-arguments-requires : (t : ℕ) → rc-statement-lts.Need-skip-arguments-requires (secret-expression-reads.Asked, secret-expression-reads.Learnt, secret-two-reads.Asked, secret-two-reads.Learnt, rc-if-below t, rc-if.Post, rc-block-below t, rc-block.Post, skip-arguments-reads.Asked, skip-arguments-reads.Learnt) (rc-statement-at t) rc-statement.Post
-rc-statement-skip-arguments-requires t c κs = fine-call _ _ _ _ _ (c .before .before .before .before .before .before .before .before .before .before .before .pre .1 .3) (c .before .before .before .before .before .if1 .left) (c .before .before .before .before .if2 .left) (c .before .before .before .if3 .left) (c .before .before .if4 .left) (c .before .if5 .left)
-
--- src/lib.rt:109:1
-rc-statement-returns-6 : (t : ℕ) → rc-statement-lts.Need-returns-6 (secret-expression-reads.Asked, secret-expression-reads.Learnt, secret-two-reads.Asked, secret-two-reads.Learnt, rc-if-below t, rc-if.Post, rc-block-below t, rc-block.Post, skip-arguments-reads.Asked, skip-arguments-reads.Learnt) (rc-statement-at t) rc-statement.Post
-rc-statement-returns-6 t c = search (pass·rules, needs)
+abbrev rc-statement-callees : ℕ → rc-statement-lts.Claims
+rc-statement-callees t =
+    (secret-expression-reads.Asked, secret-expression-reads.Learnt, secret-two-reads.Asked, secret-two-reads.Learnt, rc-if-below t, rc-if.Post, rc-block-below t, rc-block.Post, skip-arguments-reads.Asked, skip-arguments-reads.Learnt)
 
 pub +rc-block+rc-if+rc-statement-spec : {M : Type 1} → statement M
-+rc-block+rc-if+rc-statement-spec = close μ-rc-block μ-rc-if μ-rc-statement (λ t. rc-block-lts.spec (rc-statement-below t, rc-statement.Post) (rc-block-at t) rc-block.Post rc-block-Inv-loop rc-block-μ-loop (rc-block-mul-count t) (rc-block-shared-slice-read-count t) (rc-block-add-a t) (rc-block-loop-holds t) (rc-block-sub-rc-statement t) (rc-block-rc-statement-requires t) (rc-block-add-j t) (rc-block-loop-less t) (rc-block-loop-again t) (rc-block-returns t)) (λ t. rc-if-lts.spec (secret-expression-reads.Asked, secret-expression-reads.Learnt, rc-block-below t, rc-block.Post) (rc-if-at t) rc-if.Post (rc-if-add-secret-expression t) (rc-if-sub-secret-expression t) (rc-if-secret-expression-requires t) (rc-if-sub-rc-block t) (rc-if-rc-block-requires t) (rc-if-sub-rc-block-2 t) (rc-if-rc-block-requires-2 t) (rc-if-returns t)) λ t. rc-statement-lts.spec (secret-expression-reads.Asked, secret-expression-reads.Learnt, secret-two-reads.Asked, secret-two-reads.Learnt, rc-if-below t, rc-if.Post, rc-block-below t, rc-block.Post, skip-arguments-reads.Asked, skip-arguments-reads.Learnt) (rc-statement-at t) rc-statement.Post (rc-statement-mul-w t) (rc-statement-shared-slice-read-w t) (rc-statement-add-secret-expression t) (rc-statement-sub-secret-expression t) (rc-statement-secret-expression-requires t) (rc-statement-returns t) (rc-statement-add-secret-two t) (rc-statement-sub-secret-two t) (rc-statement-secret-two-requires t) (rc-statement-returns-2 t) (rc-statement-rc-if-requires t) (rc-statement-returns-3 t) (rc-statement-add-secret-two-2 t) (rc-statement-sub-secret-two-2 t) (rc-statement-secret-two-requires-2 t) (rc-statement-sub-rc-block t) (rc-statement-rc-block-requires t) (rc-statement-returns-4 t) (rc-statement-add-secret-expression-2 t) (rc-statement-sub-secret-expression-2 t) (rc-statement-secret-expression-requires-2 t) (rc-statement-returns-5 t) (rc-statement-cast-f t) (rc-statement-mul-n t) (rc-statement-shared-slice-read-n t) (rc-statement-add-skip-arguments t) (rc-statement-sub-skip-arguments t) (rc-statement-skip-arguments-requires t) (rc-statement-returns-6 t)
++rc-block+rc-if+rc-statement-spec = close μ-rc-block μ-rc-if μ-rc-statement (λ t. rc-block-lts.spec (rc-block-callees t) (rc-block-at t) rc-block.Post rc-block-Inv-loop rc-block-μ-loop
+    (λ c. search needs)  -- mul-count
+    (λ c. search needs)  -- shared-slice-read-count
+    (λ c. search needs)  -- add-a
+    (λ c. (search needs, search block-ready, search block-begin))  -- loop-holds
+    (λ c. search needs)  -- sub-rc-statement
+    (λ c κs. (search needs, block-fine _ _ _ _ _ _ _ (c .before .loop .inv .1) (c .loop-test .taken) (c .before .before .before .before .before .before .before .pre .1 .2)))  -- rc-statement-requires
+    (λ c. search needs)  -- add-j
+    (λ c. search needs)  -- loop-less
+    (λ c. (search needs, search block-again, search block-more))  -- loop-again
+    (λ c. search (block-done, needs))  -- returns
+    ) (λ t. rc-if-lts.spec (rc-if-callees t) (rc-if-at t) rc-if.Post
+    (λ c. search needs)  -- add-secret-expression
+    (λ c. search needs)  -- sub-secret-expression
+    (λ c κs. fine-if _ _ _ _ _ (c .before .before .before .before .pre .1 .0 .3) (c .before .before .before .before .pre .1 .1))  -- secret-expression-requires
+    (λ c. search needs)  -- sub-rc-block
+    (λ c κs. (search needs, then-fine _ _ true true _ _ _ _ _ (c .before .before .before .before .before .before .pre .1 .0 .3) (c .before .before .before .before .before .before .pre .1 .1) _ (c .before .secret-expression .ensures) (c .before .before .before .before .before .before .pre .1 .0 .2)))  -- rc-block-requires
+    (λ c. search needs)  -- sub-rc-block-2
+    (λ c κs. (search needs, else-fine _ _ true _ _ _ _ _ _ (c .before .before .before .before .before .before .before .pre .1 .0 .3) (c .before .before .before .before .before .before .before .pre .1 .1) _ (c .before .before .secret-expression .ensures) _ _ (c .rc-block .ensures) (c .before .before .before .before .before .before .before .pre .1 .0 .2)))  -- rc-block-requires-2
+    (λ c. pass-if _ _ _ _ _ _ _ _ _ (c .before .before .before .before .before .before .before .before .before .before .pre .1 .0 .3) (c .before .before .before .before .before .before .before .before .before .before .pre .1 .1) _ (c .before .before .before .before .before .secret-expression .ensures) _ _ (c .before .before .before .rc-block .ensures) (c .before .before .rc-block2 .ensures))  -- returns
+    ) λ t. rc-statement-lts.spec (rc-statement-callees t) (rc-statement-at t) rc-statement.Post
+    (λ c. search needs)  -- mul-w
+    (λ c. search needs)  -- shared-slice-read-w
+    (λ c. search needs)  -- add-secret-expression
+    (λ c. search needs)  -- sub-secret-expression
+    (λ c κs. fine-assign _ _ _ _ _ (c .before .before .before .before .before .before .pre .1 .3) (c .if1 .taken))  -- secret-expression-requires
+    (λ c. search (pass·rules, needs))  -- returns
+    (λ c. search needs)  -- add-secret-two
+    (λ c. search needs)  -- sub-secret-two
+    (λ c κs. fine-store _ _ _ _ _ (c .before .before .before .before .before .before .before .pre .1 .3) (c .if2 .taken))  -- secret-two-requires
+    (λ c. search (pass·rules, needs))  -- returns-2
+    (λ c κs. search needs)  -- rc-if-requires
+    (λ c. search (pass·rules, needs))  -- returns-3
+    (λ c. search needs)  -- add-secret-two-2
+    (λ c. search needs)  -- sub-secret-two-2
+    (λ c κs. fine-bounds _ _ _ _ _ (c .before .before .before .before .before .before .before .before .before .pre .1 .3) (c .if4 .taken))  -- secret-two-requires-2
+    (λ c. search needs)  -- sub-rc-block
+    (λ c κs. (search needs, for-fine _ _ true true _ _ _ _ _ (c .before .before .before .before .before .before .before .before .before .before .pre .1 .3) _ (c .before .if4 .taken) (c .before .before .before .before .before .before .before .before .before .before .pre .1 .2) (c .secret-two2 .ensures)))  -- rc-block-requires
+    (λ c. search (pass·rules, needs))  -- returns-4
+    (λ c. search needs)  -- add-secret-expression-2
+    (λ c. search needs)  -- sub-secret-expression-2
+    (λ c κs. fine-return _ _ _ _ _ (c .before .before .before .before .before .before .before .before .before .before .pre .1 .3) (c .if5 .taken))  -- secret-expression-requires-2
+    (λ c. search (pass·rules, needs))  -- returns-5
+    (λ c. search needs)  -- cast-f
+    (λ c. search needs)  -- mul-n
+    (λ c. omega (arith, fine-called _ _ _ _ _ (c .before .before .before .before .before .before .before .before .before .before .before .pre .1 .3) (c .before .before .before .before .before .if1 .left) (c .before .before .before .before .if2 .left) (c .before .before .before .if3 .left) (c .before .before .if4 .left) (c .before .if5 .left)))  -- shared-slice-read-n
+    (λ c. search needs)  -- add-skip-arguments
+    (λ c. search needs)  -- sub-skip-arguments
+    (λ c κs. fine-call _ _ _ _ _ (c .before .before .before .before .before .before .before .before .before .before .before .pre .1 .3) (c .before .before .before .before .before .if1 .left) (c .before .before .before .before .if2 .left) (c .before .before .before .if3 .left) (c .before .before .if4 .left) (c .before .if5 .left))  -- skip-arguments-requires
+    (λ c. search (pass·rules, needs))  -- returns-6

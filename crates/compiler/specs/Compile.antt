@@ -1,0 +1,42 @@
+-- What emitting procedures and images leaves: the place after them, whether their locals fit form 1, and their words on the tape.
+-- Assumes nothing.
+use Prim.Native.Nat.{ℕ, _+_, _-_, _≤_, _<_}
+use mathlib.Core.Path.{_≡_}
+use mathlib.Core.Bool.{Bool, true, false, _&&_}
+use mathlib.Core.List.{List}
+use lib.Dec.{leb}
+use lib.ListN.{length}
+use Rattle.definitions.specs.Image.{typeSort, Procedure, Image, guarded, procedureAt}
+use Rattle.definitions.specs.Encoding.{procedureWords, proceduresWords, imageWords}
+use Rattle.definitions.specs.Compiling.{compiledProcedure, compiledProcedures, compiledImage, fitLocals}
+use Rattle.tape.specs.Tape.{Tape, writes}
+use Rattle.emission.specs.Callees.{calleesOf}
+use Rattle.signatures.specs.Signatures.{imageIn}
+use Rattle.compiler.specs.declared.Sized.{Sized}
+
+abbrev pub proceduresIn : List ℕ → List Procedure
+proceduresIn image = imageIn image .procedures
+
+-- the table of callees tells of every procedure its mode and the sort of its result
+pub record Agrees (cs : List ℕ) (ps : List Procedure) : Type 0 where
+  pub modes : (f : ℕ) → guarded (procedureAt (calleesOf cs) f) ≡ guarded (procedureAt ps f)
+  pub sorts : (f : ℕ) → typeSort (procedureAt (calleesOf cs) f .result) ≡ typeSort (procedureAt ps f .result)
+
+abbrev pub Sizing : Type 0
+Sizing = Sized × List ℕ
+
+abbrev pub sizing : Bool → Tape → Sizing
+sizing f z = (record { o = z .0; fits = f }, z .1)
+
+unfoldable pub oneOn : List Procedure → List ℕ → Procedure → ℕ → List ℕ → Sizing
+oneOn ps arrays p o out =
+    sizing (leb (length (compiledProcedure ps arrays p .types) - compiledProcedure ps arrays p .parameters) 246)
+    (writes o out (procedureWords (compiledProcedure ps arrays p)))
+
+-- some procedures, behind others that fit or not
+unfoldable pub eachOn : List Procedure → List ℕ → List Procedure → Bool → ℕ → List ℕ → Sizing
+eachOn ps arrays rest fits o out =
+    sizing (fits && fitLocals (compiledProcedures ps arrays rest)) (writes o out (proceduresWords (compiledProcedures ps arrays rest)))
+
+unfoldable pub imageOn : Image → List ℕ → Sizing
+imageOn tree out = sizing (fitLocals (compiledImage tree .procedures)) (writes 0 out (imageWords (compiledImage tree)))

@@ -1,0 +1,13 @@
+use Rattle.copying.proofs.Rules.{renumber-low, renumber-high}
+use borrow.Author.Needs.{needs}
+use Rattle.copying.proofs.renumber.Statement.{statement}
+use Rattle.copying.proofs.renumber.Tie as tie
+use Rattle.copying.proofs.renumber.Reads as reads
+use Rattle.copying.proofs.renumber.Lts as lts
+
+pub renumber-spec : {M : Type 1} → statement M
+renumber-spec = tie.close (tie.spec
+    (λ c. (search renumber-low, search needs))  -- returns
+    (λ c. search needs)  -- add-result
+    (λ c. (search renumber-high, search needs))  -- returns-2
+    )

@@ -1,0 +1,3 @@
+pub mod Copy
+pub mod Laws
+pub mod Runs

@@ -1,0 +1,109 @@
+-- What each way out of the functions below `evaluate` gives. Assumes nothing.
+use mathlib.Core.Path.{_≡_, refl, sym, ap, _∙_}
+use mathlib.Core.List.{List}
+use mathlib.Core.Bool.{_||_}
+use Prim.Native.Nat.{ℕ, _+_, _/_, _%_, _≤_, _<_}
+use borrow.Author.Tests.{lt-ltb, le-ltb, ne-eqb}
+use lib.Dec.{eqb}
+use lib.ListN.{length, getD, List·getD-eq-default}
+use Rattle.definitions.specs.Choice.{pick}
+use Rattle.definitions.specs.Operators.{applyBinary}
+use Rattle.definitions.specs.Running.{Evaluated, value, stop, bind, emit, divided, operated}
+use Rattle.tracing.specs.declared.Value.{Value}
+use Rattle.tracing.specs.declared.Value.the-variants.{Got, Stop}
+use Rattle.tracing.specs.Log.{Log, log, byteTrace}
+use Rattle.tracing.specs.Answers.{evaluation, until}
+use Rattle.evaluator.specs.Cells.{entryAt, numbered, cellRead}
+use Rattle.evaluator.specs.Results.{until-got, until-stop}
+
+pub element-past : (list : List ℕ) (i : ℕ) → length list ≤ i → 0 ≡ getD list i 0
+element-past list i h = sym (List·getD-eq-default list 0 h)
+
+pub entry-in : (tables : List ℕ) (a : ℕ) → a < 16 → getD tables a 0 ≡ entryAt tables a
+unfolding entryAt
+entry-in tables a h = rw (lt-ltb a 16 h)
+
+pub entry-past : (tables : List ℕ) (a : ℕ) → 16 ≤ a → 0 ≡ entryAt tables a
+unfolding entryAt
+entry-past tables a h = rw (le-ltb a 16 h)
+
+module _ (tables slice : List ℕ) (used a l v n : ℕ) (r : Value) (slice1 : List ℕ)
+    (d : evaluation r slice1 ≡ until n (emit byteTrace 4 l v (log used slice))) where
+  pub index-full : (k q u : ℕ) → r ≡ Stop k q u → evaluation (Stop k q u) slice1 ≡ until n (numbered tables a l v (log used slice))
+  unfolding numbered evaluation until
+  index-full k q u s = rw (until-stop r slice1 n (emit byteTrace 4 l v (log used slice)) k q u d s)
+
+  module _ (i m u e : ℕ) (s : r ≡ Got i m u) (he : e ≡ entryAt tables a) where
+    pub index-in : i < e % 65536 → evaluation (Got (e / 65536 + i) m u) slice1 ≡ until n (numbered tables a l v (log used slice))
+    unfolding numbered evaluation until
+    index-in h = let (y, z) = until-got r slice1 n (emit byteTrace 4 l v (log used slice)) i m u d s in rw (y, z, ← he, lt-ltb i (e % 65536) h)
+
+    pub index-out : e % 65536 ≤ i → evaluation (Stop 23 l u) slice1 ≡ until n (numbered tables a l v (log used slice))
+    unfolding numbered evaluation until
+    index-out h = let (y, z) = until-got r slice1 n (emit byteTrace 4 l v (log used slice)) i m u d s in rw (y, z, ← he, le-ltb i (e % 65536) h)
+
+pub ruleset index·rules = (index-full, index-in, index-out)
+
+module _ (tables cells slice : List ℕ) (used a l v n : ℕ) (r : Value) (slice1 : List ℕ)
+    (d : evaluation r slice1 ≡ until n (numbered tables a l v (log used slice))) where
+  pub cell-stop : (k q u : ℕ) → r ≡ Stop k q u → evaluation (Stop k q u) slice1 ≡ until n (cellRead tables cells a l v (log used slice))
+  unfolding cellRead evaluation until
+  cell-stop k q u s = rw (until-stop r slice1 n (numbered tables a l v (log used slice)) k q u d s)
+
+  pub cell-got : (i m u x : ℕ) → r ≡ Got i m u → x ≡ getD cells i 0 → evaluation (Got x m u) slice1 ≡ until n (cellRead tables cells a l v (log used slice))
+  unfolding cellRead evaluation until
+  cell-got i m u x s e = let (y, z) = until-got r slice1 n (numbered tables a l v (log used slice)) i m u d s in rw (y, z, e)
+
+pub ruleset cell·rules = (cell-stop, cell-got)
+
+module _ (slice : List ℕ) (used p o a b n : ℕ) (r : Value) (slice1 : List ℕ)
+    (d : evaluation r slice1 ≡ until n (emit byteTrace 5 p a (log used slice))) where
+  pub divide-full : (k q u : ℕ) → r ≡ Stop k q u → evaluation (Stop k q u) slice1 ≡ until n (divided byteTrace p o a b (log used slice))
+  unfolding divided evaluation until
+  divide-full k q u s = rw (until-stop r slice1 n (emit byteTrace 5 p a (log used slice)) k q u d s)
+
+  module _ (i m u : ℕ) (s : r ≡ Got i m u) (r2 : Value) (slice2 : List ℕ)
+      (d2 : evaluation r2 slice2 ≡ until m (emit byteTrace 6 p b (log u slice1))) where
+    pub divide-full2 : (k q u2 : ℕ) → r2 ≡ Stop k q u2 → evaluation (Stop k q u2) slice2 ≡ until n (divided byteTrace p o a b (log used slice))
+    unfolding divided evaluation until
+    divide-full2 k q u2 s2 =
+        let (y, z) = until-got r slice1 n (emit byteTrace 5 p a (log used slice)) i m u d s in rw (y, until-stop r2 slice2 m (emit byteTrace 6 p b (log u slice1)) k q u2 d2 s2)
+
+    module _ (j m2 u2 : ℕ) (s2 : r2 ≡ Got j m2 u2) where
+      pub divide-zero : b ≡ 0 → evaluation (Stop 24 p u2) slice2 ≡ until n (divided byteTrace p o a b (log used slice))
+      unfolding divided evaluation until
+      divide-zero h =
+          let (y, z) = until-got r slice1 n (emit byteTrace 5 p a (log used slice)) i m u d s in
+          let (y2, z2) = until-got r2 slice2 m (emit byteTrace 6 p b (log u slice1)) j m2 u2 d2 s2 in rw (y, y2, h)
+
+      pub divide-done : (x : ℕ) → (b ≡ 0 → ⊥) → x ≡ applyBinary o a b → evaluation (Got x m2 u2) slice2 ≡ until n (divided byteTrace p o a b (log used slice))
+      unfolding divided evaluation until
+      divide-done x h e =
+          let (y, z) = until-got r slice1 n (emit byteTrace 5 p a (log used slice)) i m u d s in
+          let (y2, z2) = until-got r2 slice2 m (emit byteTrace 6 p b (log u slice1)) j m2 u2 d2 s2 in rw (y, y2, ne-eqb b 0 h, z, z2, e)
+
+pub ruleset divide·rules = (divide-full, divide-full2, divide-zero, divide-done)
+
+module _ (p o a b n : ℕ) (t : Log) where
+  pub operate-nine : (r : Value) (slice : List ℕ) → o ≡ 9 → evaluation r slice ≡ until n (divided byteTrace p o a b t)
+      → evaluation r slice ≡ until n (operated byteTrace p o a b t)
+  unfolding operated
+  operate-nine r slice h e = rw (ap (λ (x : ℕ). eqb x 9) h) e
+
+  pub operate-ten : (r : Value) (slice : List ℕ) → (o ≡ 9 → ⊥) → o ≡ 10 → evaluation r slice ≡ until n (divided byteTrace p o a b t)
+      → evaluation r slice ≡ until n (operated byteTrace p o a b t)
+  unfolding operated
+  operate-ten r slice f h e = rw (ne-eqb o 9 f, ap (λ (x : ℕ). eqb x 10) h) e
+
+pub operate-done : (p o a b n x used : ℕ) (slice : List ℕ) → (o ≡ 9 → ⊥) → (o ≡ 10 → ⊥) → x ≡ applyBinary o a b
+    → evaluation (Got x n used) slice ≡ until n (operated byteTrace p o a b (log used slice))
+unfolding operated evaluation until
+operate-done p o a b n x used slice f g e = rw (ne-eqb o 9 f, ne-eqb o 10 g, e)
+
+pub ruleset operate·rules = (operate-nine, operate-ten, operate-done)
+
+pub choose-zero : (c a b : ℕ) → c ≡ 0 → b ≡ pick (eqb c 0) b a
+choose-zero c a b h = rw h
+
+pub choose-other : (c a b : ℕ) → (c ≡ 0 → ⊥) → a ≡ pick (eqb c 0) b a
+choose-other c a b h = rw (ne-eqb c 0 h)

@@ -1,0 +1,11 @@
+-- `choose`: each need is answered by the rule for that way out, with the facts that the code has there. Assumes nothing.
+use Rattle.evaluator.proofs.Leaves.{choose-zero, choose-other}
+use borrow.Author.Needs.{needs}
+use Rattle.evaluator.proofs.choose.Statement.{statement}
+use Rattle.evaluator.proofs.choose.Tie as tie
+
+pub choose-spec : {M : Type 1} → statement M
+choose-spec = tie.close (tie.spec
+    (λ c. search (choose-zero, choose-other, needs))  -- returns
+    (λ c. search (choose-zero, choose-other, needs))  -- returns-2
+    )

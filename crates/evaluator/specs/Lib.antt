@@ -1,0 +1,5 @@
+pub mod Program
+pub mod Cells
+pub mod CellLaws
+pub mod Evaluation
+pub mod Results

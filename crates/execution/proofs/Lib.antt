@@ -1,0 +1,2 @@
+pub mod CopyRules
+pub mod RunRules

@@ -1,0 +1,2 @@
+pub mod ArrayRules
+pub mod ProcedureRules

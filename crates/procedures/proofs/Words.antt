@@ -1,0 +1,56 @@
+-- The rules of the words around a procedure's own statements. Assumes nothing.
+use Prim.Native.Nat.{ℕ, zero, suc, _+_, _*_, _-_, _≤_, _<_}
+use mathlib.Core.Bool.{Bool, true, false}
+use mathlib.Core.List.{List, [], _∷_, _++_}
+use mathlib.Core.Path.{_≡_, refl, sym, ap, _∙_}
+use native.Mathlib.Omega.{arith}
+use native.Mathlib.Numerals.{add-one}
+use lib.ListN.{length, getD, take, drop, length-drop}
+use lib.Seq.{drop-cons, take-all}
+use Rattle.definitions.specs.Choice.{pick}
+use Rattle.definitions.specs.Encoding.{wordWith}
+use Rattle.tape.specs.Tape.{Tape, write, writes}
+use Rattle.tape.specs.Laws.{writes-nil, writes-on, writes-one}
+use Rattle.copying.specs.Runs.{run-run}
+
+module _ (words : List ℕ) (to j p : ℕ) (out : List ℕ) (X : Tape) (u : writes p out (take (to - j) (drop j words)) ≡ X) where
+  pub copy-done : to ≤ j → _≡_ {A = Tape} (p, out) X
+  copy-done h =
+      let z : to - j ≡ 0 = omega arith in
+      sym (ap (λ k. writes p out (take k (drop j words))) z ∙ writes-nil p out) ∙ u
+
+  pub copy-more : (q : ℕ) (t : List ℕ) → j < to → to ≤ length words → _≡_ {A = Tape} (q, t) (write p out (getD words j 0))
+      → writes q t (take (to - (j + 1)) (drop (j + 1) words)) ≡ X
+  copy-more q t h b e =
+      let z : to - j ≡ suc (to - (j + 1)) = omega arith in
+      let d : drop j words ≡ getD words j 0 ∷ drop (suc j) words = drop-cons words j 0 (omega arith) in
+      ap (λ (y : Tape). writes (y .0) (y .1) (take (to - (j + 1)) (drop (j + 1) words))) e
+      ∙ ap (λ k. writes (write p out (getD words j 0) .0) (write p out (getD words j 0) .1) (take (to - (j + 1)) (drop k words))) (add-one j)
+      ∙ sym (writes-on p out (getD words j 0) (take (to - (j + 1)) (drop (suc j) words)))
+      ∙ sym (ap (λ k. writes p out (take k (drop j words))) z ∙ ap (λ l. writes p out (take (suc (to - (j + 1))) l)) d) ∙ u
+
+module _ (o : ℕ) (out : List ℕ) (b : Bool) where
+  pub chosen-word : (w r : ℕ) (t : List ℕ) → b ≡ true → _≡_ {A = Tape} (r, t) (write o out w) → _≡_ {A = Tape} (r, t) (writes o out (pick b (w ∷ []) []))
+  chosen-word w r t h e = rw h (e ∙ sym (writes-one o out w))
+
+  pub chosen-two : (v w r : ℕ) (t : List ℕ) → b ≡ true → _≡_ {A = Tape} (r, t) (writes o out (v ∷ (w ∷ []))) → _≡_ {A = Tape} (r, t) (writes o out (pick b (v ∷ (w ∷ [])) []))
+  chosen-two v w r t h e = rw h e
+
+  pub chosen-none : (ws : List ℕ) → b ≡ false → _≡_ {A = Tape} (o, out) (writes o out (pick b ws []))
+  chosen-none ws h = rw h (sym (writes-nil o out))
+
+pub chosen-first : (b : Bool) (x y : ℕ) → b ≡ true → x ≡ pick b x y
+chosen-first b x y h = rw h
+
+pub chosen-second : (b : Bool) (x y : ℕ) → b ≡ false → y ≡ pick b x y
+chosen-second b x y h = rw h
+
+pub kept-on : (types : List ℕ) (o : ℕ) (out : List ℕ) (n : ℕ) (g : Bool) (a : ℕ) (t1 : List ℕ) (b : ℕ) (t2 : List ℕ) (r : ℕ) (t3 : List ℕ)
+    → _≡_ {A = Tape} (a, t1) (writes o out (take (n - 0) (drop 0 types))) → _≡_ {A = Tape} (b, t2) (writes a t1 (pick g (1073741827 ∷ []) []))
+    → _≡_ {A = Tape} (r, t3) (writes b t2 (take (length types - n) (drop n types)))
+    → _≡_ {A = Tape} (r, t3) (writes o out (take n types ++ (pick g (1073741827 ∷ []) [] ++ drop n types)))
+kept-on types o out n g a t1 b t2 r t3 e f h =
+    let z : n - 0 ≡ n = omega arith in
+    let y : take (length types - n) (drop n types) ≡ drop n types = take-all (length types - n) (drop n types) (omega (arith, length-drop n types)) in
+    run-run o out a t1 (take n types) (pick g (1073741827 ∷ []) [] ++ drop n types) (r, t3) (e ∙ ap (λ k. writes o out (take k types)) z)
+    (run-run a t1 b t2 (pick g (1073741827 ∷ []) []) (drop n types) (r, t3) f (h ∙ ap (λ l. writes b t2 l) y))

@@ -1,0 +1,39 @@
+-- What the compiler and the machine promise beyond the definitions themselves, one statement each. They are stated over the definitions that
+-- the code is proved equal to. Assumes nothing.
+use Prim.Native.Nat.{ℕ, _*_}
+use mathlib.Core.Bool.{Bool}
+use mathlib.Core.List.{List}
+use mathlib.Core.Path.{_≡_}
+use lib.ListN.{length, take}
+use Rattle.definitions.specs.declared.Compiled.the-variants.{Written}
+use Rattle.definitions.specs.Compiling.{compiled}
+use Rattle.definitions.specs.Host.{compileBytes}
+use Rattle.secrecy.specs.Sessions.{Request, empty, AlikeLists, SameTurns}
+use Rattle.secrecy.specs.Secrecy.{secrecy}
+use Rattle.properties.specs.Compiled.{KeepsMeaning, compiled-keeps-meaning}
+use Rattle.properties.specs.CompiledBytes.{KeepsMeaningBytes, compiled-bytes-keep-meaning}
+
+-- Property 2, "compiled and source runs are compared with that 1". For every source image that the compiler compiles (so the checker accepts it):
+-- the words it writes are accepted as form 1 over the same arrays; and for every procedure, arguments (with 1 for the guard where the source's
+-- procedure is guarded), equal cells, two budgets and two lengths of the lent trace, where neither call stops with 21 or 22, both end with the
+-- same result, or both stop with the same number (23 or 24), and leave the same cells. A call that one refuses the other refuses alike. Every other
+-- request is answered alike. What is the same is in KeepsMeaning and SameEnd (Compiled).
+pub property-2 :
+    (whole : Bool) (words out : List ℕ) (n : ℕ) → compiled whole words out .0 ≡ Written n
+    → KeepsMeaning whole words (take n (compiled whole words out .1))
+property-2 = compiled-keeps-meaning
+
+-- The same for a host, which lends bytes (CompiledBytes).
+pub property-2-bytes :
+    (image out : List ℕ) (n : ℕ) → compileBytes image out .0 ≡ Written n → KeepsMeaningBytes image (take (4 * n) (compileBytes image out .1))
+property-2-bytes = compiled-bytes-keep-meaning
+
+-- Property 3, "What demand 3 compares". Two machines start empty, over cell slices of one length, and serve two lists of requests of which only
+-- secret arguments and words poked into secret cells differ, by the image in force; images that a load accepts are in form 1, whoever wrote them.
+-- "Equal at each turn: whether it is refused or stopped, number, place, steps, the number of trace words recorded and each of them, a public
+-- result, a peeked public cell. Equal after each turn: all cells of public arrays of the image then in force. This is one claim about the whole
+-- list". What may differ is in AlikeLists, what is the same in SameTurns (Sessions, of the laws "secrecy").
+pub property-3 :
+    (cells cells′ : List ℕ) (requests requests′ : List Request) → length cells ≡ length cells′ → AlikeLists (empty cells) requests requests′
+    → SameTurns (empty cells) (empty cells′) requests requests′
+property-3 = secrecy

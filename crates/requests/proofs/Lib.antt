@@ -1,0 +1,3 @@
+pub mod CellRules
+pub mod MachineRules
+pub mod ArgumentRules

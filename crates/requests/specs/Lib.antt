@@ -1,0 +1,10 @@
+pub mod Cells
+pub mod Machines
+pub mod LentCells
+pub mod SpareRuns
+pub mod SpareCells
+pub mod LongImages
+pub mod Ready
+pub mod Arrays
+pub mod ReadImages
+pub mod ByteRequests

@@ -1,0 +1,52 @@
+-- An image of more words than any form admits is refused by its header alone: its first 16,384 words tell the answer.
+-- Assumes nothing.
+use mathlib.Core.Path.{_≡_, refl, sym, ap, _∙_}
+use mathlib.Core.Bool.{Bool, true, false, _&&_}
+use mathlib.Core.List.{List, [], _∷_}
+use Prim.Native.Nat.{ℕ, _≤_, _<_}
+use native.Mathlib.Omega.{arith}
+use borrow.Author.Tests.{leb-true, leb-false, le-leb, lt-leb, ne-eqb}
+use lib.Dec.{leb, eqb}
+use lib.ListN.{length, getD, take, length-take}
+use lib.Seq.{take-all, length-take-le, getD-take}
+use Rattle.definitions.specs.Choice.{pick}
+use Rattle.definitions.specs.Image.{Image, formOf, headerWord, largestImage}
+use Rattle.definitions.specs.Reading.{Parse, got, refused, readRest, readImage}
+
+and-false : (a : Bool) → a && false ≡ false
+and-false true = refl
+and-false false = refl
+
+and-true : (a : Bool) → a && true ≡ a
+and-true true = refl
+and-true false = refl
+
+pub largest-most : (form : ℕ) → largestImage form ≤ 16384
+largest-most form = go (eqb form 0)
+  where
+    go : (b : Bool) → pick b 4096 16384 ≤ 16384
+    go true = omega arith
+    go false = omega arith
+
+-- no image is both longer than a form admits and read
+beyond : (whole : Bool) (image : List ℕ) → 16384 < length image
+    → readImage whole image ≡ pick (headerWord (getD image 0 0)) (refused 1 0) (refused 2 0)
+unfolding readImage
+beyond whole image h =
+    let long : leb (length image) (largestImage (formOf (getD image 0 0))) ≡ false =
+    lt-leb (length image) (largestImage (formOf (getD image 0 0))) (let m = largest-most (formOf (getD image 0 0)) in omega arith) in
+    rw (ne-eqb (length image) 0 (λ z. omega arith), long, and-false)
+
+cut : (image : List ℕ) → 16384 < length image → (whole : Bool)
+    → readImage false (take 16384 image) ≡ pick (headerWord (getD image 0 0)) (refused 1 0) (refused 2 0)
+unfolding readImage
+cut image h whole =
+    let long : length (take 16384 image) ≡ 16384 = length-take-le 16384 image (omega arith) in
+    rw (ne-eqb (length (take 16384 image)) 0 (λ z. omega arith), getD-take 16384 image 0 0 (omega arith))
+
+pub long-image : (whole : Bool) (image : List ℕ) → readImage whole image ≡ readImage (whole && leb (length image) 16384) (take 16384 image)
+long-image whole image = go (leb (length image) 16384) refl
+  where
+    go : (b : Bool) → leb (length image) 16384 ≡ b → readImage whole image ≡ readImage (whole && b) (take 16384 image)
+    go true e = rw (and-true, take-all 16384 image (leb-true (length image) 16384 e))
+    go false e = rw and-false (beyond whole image (leb-false (length image) 16384 e) ∙ sym (cut image (leb-false (length image) 16384 e) whole))

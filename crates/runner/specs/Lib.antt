@@ -1,0 +1,4 @@
+pub mod Runs
+pub mod Known
+pub mod Results
+pub mod Callees

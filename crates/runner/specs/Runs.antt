@@ -1,0 +1,113 @@
+-- How the answer of the code's run over words is read as the definition's result, and the definition's result on the tree that was read.
+-- Assumes nothing.
+use mathlib.Core.List.{List, []}
+use Prim.Native.Nat.{ℕ, _+_, _-_}
+use lib.ListN.{getD}
+use lib.Seq.{sets}
+use Rattle.definitions.specs.Arithmetic.{truth}
+use Rattle.definitions.specs.Image.{Expression, Statement, Block, Image}
+use Rattle.definitions.specs.Reading.{Parse, got, refused}
+use Rattle.definitions.specs.Running.{Evaluated, value, stop, bind, emit, on, halt, andGo, Outcome, next, back, Callee, evaluate, evaluateAll, passes, runStatement, runBlock, runProcedure}
+use Rattle.definitions.specs.Running.{Ran as Run}
+use Rattle.tracing.specs.Log.{Log, log, byteTrace}
+use Rattle.tracing.specs.Answers.{until}
+use Rattle.tracing.specs.declared.Value.{Value}
+use Rattle.tracing.specs.declared.Value.the-variants.{Got, Stop}
+use Rattle.evaluator.specs.Cells.{numbered}
+use Rattle.runner.specs.declared.Ran.{Ran}
+use Rattle.runner.specs.declared.Ran.the-variants.{On, Back, Stop as Halt}
+use Rattle.runner.specs.declared.Bounds.{Bounds}
+use Rattle.runner.specs.declared.Bounds.the-variants.{Both, Stop as NoBounds}
+
+-- an outcome, with the place where the run goes on
+pub data Went : Type 0 where
+  -- the place, the variables, the cells
+  went : ℕ → List ℕ → List ℕ → Went
+  -- the value returned, the cells
+  gone : ℕ → List ℕ → Went
+
+-- an answer, with what the lent slices hold: a stop says nothing of the variables and cells, a return nothing of the variables
+unfoldable pub finished : Ran → List ℕ → List ℕ → List ℕ → Run Log Went
+finished (On at used steps) vars cells slice = on (went at vars cells) steps (log used slice)
+finished (Back v used steps) vars cells slice = on (gone v cells) steps (log used slice)
+finished (Halt number place used steps) vars cells slice = halt number place steps (log used slice)
+
+-- the place after what was run
+unfoldable pub placed : ℕ → Outcome → ℕ → Log → Run Log Went
+placed n (next vs cs) z t = on (went n vs cs) z t
+placed n (back v cs) z t = on (gone v cs) z t
+
+unfoldable pub ending : ℕ → Run Log Outcome → Run Log Went
+ending n x = andGo x (placed n)
+
+-- the procedures that the body of procedure `me` can call
+abbrev pub callees : ℕ → Image → ℕ → Callee Log
+callees budget program me = λ f ws z t cs. runProcedure byteTrace budget (program .arrays) (program .procedures) me f ws z t cs
+
+-- the run of the statement that was read at place l, its step taken
+unfoldable pub statementAt : ℕ → Image → ℕ → ℕ → ℕ → Log → List ℕ → List ℕ → Parse Statement → Run Log Went
+statementAt budget program me l z t vs cs (got s n) =
+    ending n (runStatement byteTrace budget (program .arrays) (callees budget program me) l s z t vs cs)
+statementAt budget program me l z t vs cs (refused k p) = halt k p z t
+
+-- the run of the block that was read, and of statements
+unfoldable pub blockAt : ℕ → Image → ℕ → ℕ → Log → List ℕ → List ℕ → Parse Block → Run Log Went
+blockAt budget program me z t vs cs (got b n) =
+    ending n (runBlock byteTrace budget (program .arrays) (callees budget program me) b z t vs cs)
+blockAt budget program me z t vs cs (refused k p) = halt k p z t
+
+-- n passes of a for at place l over the block that was read, the next with variable x at i; then on to the given place
+unfoldable pub passesAt : ℕ → Image → ℕ → ℕ → ℕ → ℕ → ℕ → ℕ → ℕ → Log → List ℕ → List ℕ → Parse Block → Run Log Went
+passesAt budget program me l x n i after z t vs cs (got b m) =
+    ending after (passes budget l x (λ y u us ds. runBlock byteTrace budget (program .arrays) (callees budget program me) b y u us ds) n i z t vs cs)
+passesAt budget program me l x n i after z t vs cs (refused k p) = halt k p z t
+
+-- ---- parts of statements
+
+-- an if's condition with its entry; the value is 0 or 1
+unfoldable pub branchAt : List ℕ → ℕ → List ℕ → List ℕ → Log → Parse Expression → Evaluated Log (ℕ × ℕ)
+branchAt arrays l vs cs t (got e n) = until n (bind (evaluate byteTrace arrays e vs cs t) (λ v u. emit byteTrace 1 l (truth v) u))
+branchAt arrays l vs cs t (refused k p) = stop k p t
+
+-- a store's index with its entry and test; the value is the number of its cell among all cells
+unfoldable pub slotAt : List ℕ → List ℕ → ℕ → ℕ → List ℕ → List ℕ → Log → Parse Expression → Evaluated Log (ℕ × ℕ)
+slotAt arrays tables a l vs cs t (got e n) = until n (bind (evaluate byteTrace arrays e vs cs t) (λ v u. numbered tables a l v u))
+slotAt arrays tables a l vs cs t (refused k p) = stop k p t
+
+-- a for's bounds
+pub data Range : Type 0 where
+  range : ℕ → ℕ → ℕ → Range
+
+unfoldable pub bounded : Bounds → List ℕ → Evaluated Log Range
+bounded (Both from to at used) slice = value (range from to at) (log used slice)
+bounded (NoBounds number place used) slice = stop number place (log used slice)
+
+-- both bounds' entries
+unfoldable pub rangeNoted : ℕ → ℕ → ℕ → ℕ → Log → Evaluated Log Range
+rangeNoted l v w n t = bind (emit byteTrace 2 l v t) (λ i y. bind (emit byteTrace 3 l w y) (λ j q. value (range v w n) q))
+
+-- both bounds with their entries, of the expressions e and f, which end at place n
+unfoldable pub bounds : List ℕ → ℕ → Expression → Expression → ℕ → List ℕ → List ℕ → Log → Evaluated Log Range
+bounds arrays l e f n vs cs t =
+    bind (evaluate byteTrace arrays e vs cs t)
+    (λ v u. bind (evaluate byteTrace arrays f vs cs u)
+    (λ w x. rangeNoted l v w n x))
+
+unfoldable pub boundsAt : List ℕ → ℕ → List ℕ → List ℕ → Log → Parse Expression → Parse Expression → Evaluated Log Range
+boundsAt arrays l vs cs t (got e n) (got f m) = bounds arrays l e f m vs cs t
+boundsAt arrays l vs cs t (got e n) (refused k p) = stop k p t
+boundsAt arrays l vs cs t (refused k p) y = stop k p t
+
+-- a call's values in the frame, from its start on, and the place after them
+pub data Framed : Type 0 where
+  framed : List ℕ → ℕ → Framed
+
+unfoldable pub framing : Value → List ℕ → List ℕ → Evaluated Log Framed
+framing (Got v at used) frame slice = value (framed frame at) (log used slice)
+framing (Stop number place used) frame slice = stop number place (log used slice)
+
+-- values that go into the frame from index k on
+unfoldable pub argumentsAt : List ℕ → List ℕ → List ℕ → Log → List ℕ → ℕ → Parse (List Expression) → Evaluated Log Framed
+argumentsAt arrays vs cs t frame k (got es n) =
+    bind (evaluateAll byteTrace arrays es vs cs t) (λ ws u. value (framed (sets frame k ws) n) u)
+argumentsAt arrays vs cs t frame k (refused i p) = stop i p t

@@ -1,0 +1,25 @@
+-- What each return of the writer gives. Assumes nothing.
+use Prim.Native.Nat.{ℕ, _+_, _≤_, _<_}
+use mathlib.Core.Path.{_≡_, refl, ap, sym}
+use mathlib.Core.List.{List}
+use lib.ListN.{length, set}
+use lib.Seq.{set-out}
+use borrow.Author.Tests.{lt-ltb, le-ltb}
+use Rattle.tape.specs.Tape.{Tape, write}
+
+pub put-past : (o : ℕ) (out : List ℕ) (w : ℕ) → 16385 ≤ o → _≡_ {A = Tape} (o, out) (write o out w)
+unfolding write
+put-past o out w h = rw (le-ltb _ _ h)
+
+pub put-within : (o : ℕ) (out : List ℕ) (w : ℕ) → o < 16385 → _≡_ {A = Tape} (o + 1, set out o w) (write o out w)
+unfolding write
+put-within o out w h = rw (lt-ltb _ _ h)
+
+pub put-beyond : (o : ℕ) (out : List ℕ) (w : ℕ) → o < 16385 → length out ≤ o → _≡_ {A = Tape} (o + 1, out) (write o out w)
+unfolding write
+put-beyond o out w h g = rw (lt-ltb _ _ h, set-out out o w g)
+
+pub patch-on : (r o : ℕ) (out t : List ℕ) (w : ℕ) → _≡_ {A = Tape} (r, t) (write o out w) → t ≡ write o out w .1
+patch-on r o out t w e = ap (λ (z : Tape). z .1) e
+
+pub ruleset put·rules = (put-past, put-within, put-beyond)

@@ -1,0 +1,2 @@
+pub mod Tape
+pub mod Laws

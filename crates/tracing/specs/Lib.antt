@@ -1,0 +1,4 @@
+pub mod Log
+pub mod Renaming
+pub mod Painting
+pub mod Answers
