@@ -1,0 +1,180 @@
+//! Times, and the two tables.
+
+use std::hint::black_box;
+use std::time::{Duration, Instant};
+
+use crate::workloads::{hot_loop, long_source, small_routine, untaken_arm, Call, Workload};
+use crate::{compile, library, second, words};
+
+/// Long enough for the trace of every workload: the branch in a loop leaves two words a pass.
+const TRACE_WORDS: usize = 1 << 20;
+const OUT_WORDS: usize = 16384;
+
+/// The longest arm that is skipped; a source has at most 4,096 words.
+const LONGEST_ARM: u32 = 4000;
+
+/// Seconds for one run on each side.
+#[derive(Clone, Copy)]
+struct Pair {
+    library: f64,
+    second: f64,
+}
+
+/// Takes samples of a job; a sample is as many runs as take 20 ms.
+struct Sampler<F> {
+    job: F,
+    runs: u32,
+    least: f64,
+}
+
+impl<T, F: FnMut() -> T> Sampler<F> {
+    fn new(job: F) -> Sampler<F> {
+        Sampler { job, runs: 1, least: f64::INFINITY }
+    }
+
+    fn sample(&mut self) {
+        let begin = Instant::now();
+        for _ in 0..self.runs {
+            black_box((self.job)());
+        }
+        let taken = begin.elapsed();
+        self.least = self.least.min(taken.as_secs_f64() / f64::from(self.runs));
+        if taken < Duration::from_millis(20) {
+            self.runs = self.runs.saturating_mul(2);
+        }
+    }
+}
+
+/// The least time of one run on each side. The sides take turns, so that a busy machine is no advantage to one.
+fn least_times<T, U>(library: impl FnMut() -> T, second: impl FnMut() -> U) -> Pair {
+    let (mut library, mut second) = (Sampler::new(library), Sampler::new(second));
+    let begin = Instant::now();
+    while begin.elapsed() < Duration::from_secs(1) || library.least.is_infinite() {
+        library.sample();
+        second.sample();
+    }
+    Pair { library: library.least, second: second.least }
+}
+
+fn time_check(image: &[u8]) -> Pair {
+    assert!(library::check(image) && second::check(image), "a workload is refused");
+    least_times(|| library::check(black_box(image)), || second::check(black_box(image)))
+}
+
+fn time_compile(image: &[u8]) -> Pair {
+    let mut out = vec![0; 4 * OUT_WORDS];
+    let written = library::compile(image, &mut out);
+    assert!(
+        written.is_some() && written == second::compile(image, OUT_WORDS),
+        "compiled forms differ"
+    );
+    least_times(
+        || library::compile(black_box(image), &mut out),
+        || second::compile(black_box(image), OUT_WORDS),
+    )
+}
+
+/// The times of a call, and its steps.
+fn time_call(image: &[u8], call: &Call) -> (Pair, u32) {
+    let mut trace = vec![0; 4 * TRACE_WORDS];
+    let answer = library::call(image, &mut [], call, &mut trace);
+    assert!(
+        answer.done && answer == second::call(image, &mut [], call, TRACE_WORDS),
+        "calls differ"
+    );
+    let pair = least_times(
+        || library::call(black_box(image), &mut [], call, &mut trace),
+        || second::call(black_box(image), &mut [], call, TRACE_WORDS),
+    );
+    (pair, answer.steps)
+}
+
+// ---- rates ----
+
+fn rate_row(title: &str, operation: &str, unit: &str, amount: usize, pair: Pair) {
+    let rate = |seconds: f64| amount as f64 / seconds;
+    println!(
+        "| {title} | {operation} | {unit} | {:.0} | {:.0} | {:.3} |",
+        rate(pair.library),
+        rate(pair.second),
+        pair.second / pair.library
+    );
+}
+
+fn call_row(title: &str, image: &[u8], call: &Call) {
+    let (pair, steps) = time_call(image, call);
+    rate_row(title, "run", "steps", steps as usize, pair);
+}
+
+fn compiled_form(source: &[u8]) -> Vec<u8> {
+    words::to_bytes(&compile::compile(source, OUT_WORDS as u64).expect("the workloads compile"))
+}
+
+fn source_rows(workload: &Workload) {
+    let count = workload.image.len() / 4;
+    let title = format!("{}, source ({count} words)", workload.name);
+    rate_row(&title, "check", "words", count, time_check(&workload.image));
+    rate_row(&title, "compile", "words", count, time_compile(&workload.image));
+    call_row(&title, &workload.image, &workload.call);
+}
+
+fn compiled_rows(workload: &Workload) {
+    let image = compiled_form(&workload.image);
+    let count = image.len() / 4;
+    let title = format!("{}, compiled ({count} words)", workload.name);
+    rate_row(&title, "check", "words", count, time_check(&image));
+    call_row(&title, &image, &workload.call);
+}
+
+pub fn rate_table(passes: u32) {
+    println!(
+        "| workload | operation | a second | library | second program | library / second program |"
+    );
+    println!("| --- | --- | --- | ---: | ---: | ---: |");
+    for workload in [small_routine(), long_source(4096)] {
+        source_rows(&workload);
+        compiled_rows(&workload);
+    }
+    source_rows(&hot_loop(passes));
+    source_rows(&untaken_arm(passes / 8, LONGEST_ARM));
+    println!();
+}
+
+// ---- growth ----
+
+fn growth_row(title: &str, operation: &str, work: &str, first: Pair, then: Pair) {
+    println!(
+        "| {title} | {operation} | {work} | {:.2} | {:.2} |",
+        then.library / first.library,
+        then.second / first.second
+    );
+}
+
+/// One row for each doubling of the size, from an eighth of the largest.
+fn growth_rows(title: &str, operation: &str, unit: &str, largest: u32, time: impl Fn(u32) -> Pair) {
+    let mut size = largest / 8;
+    let mut last = time(size);
+    for _ in 0..3 {
+        let next = time(2 * size);
+        growth_row(title, operation, &format!("{size} to {} {unit}", 2 * size), last, next);
+        (size, last) = (2 * size, next);
+    }
+}
+
+pub fn growth_table(passes: u32) {
+    println!("| workload | operation | work doubled | library takes, times | second program takes, times |");
+    println!("| --- | --- | --- | ---: | ---: |");
+    growth_rows("long source", "check", "words", 4096, |n| time_check(&long_source(n).image));
+    growth_rows("long source", "compile", "words", 4096, |n| time_compile(&long_source(n).image));
+    let run = |workload: Workload| time_call(&workload.image, &workload.call).0;
+    growth_rows("long source", "run", "words", 4096, |n| run(long_source(n)));
+    growth_rows("long source, compiled", "run", "source words", 4096, |n| {
+        let workload = long_source(n);
+        time_call(&compiled_form(&workload.image), &workload.call).0
+    });
+    growth_rows("hot loop", "run", "passes", passes, |n| run(hot_loop(n)));
+    growth_rows("untaken arm", "run", "passes", passes / 8, |n| run(untaken_arm(n, LONGEST_ARM)));
+    growth_rows("untaken arm", "run", "arm words", LONGEST_ARM, |n| {
+        run(untaken_arm(passes / 8, n))
+    });
+}

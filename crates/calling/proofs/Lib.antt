@@ -1,0 +1,3 @@
+pub mod TurnRules
+pub mod TableRules
+pub mod CallRules

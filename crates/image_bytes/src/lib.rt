@@ -1,0 +1,28 @@
+// A lent image's bytes as words, as far as any form admits them.
+ghost use mathlib.Core.Path.{_≡_};
+ghost use mathlib.Core.Bool.{_&&_};
+ghost use Prim.Native.Nat.{_/_, _%_, _≤_};
+ghost use lib.Dec.{eqb, leb};
+ghost use lib.ListN.{length, take};
+ghost use Rattle.definitions.specs.Bytes.{wordsOf};
+ghost use Rattle.definitions.specs.Host.{wholeWords};
+
+// The first 16,384 words of an image, and how many there are: a longer image is refused by its header or its length alone.
+pub fn read_image(image: &[u8], words: &mut [u32; 16384]) -> usize
+    ensures { λ r. ⌜ (r ≤ 16384) × (take r (now (words .exit)) ≡ take 16384 (wordsOf (now (image .entry)))) ⌝ }
+{
+    let count = image.len() / 4;
+    if count <= 16384 {
+        words::read_words(image, words, count);
+        return count;
+    }
+    words::read_words(image, words, 16384);
+    16384
+}
+
+// Whether an image is whole words, and no more of them than any form admits.
+pub fn admissible(image: &[u8]) -> bool
+    ensures { λ r. ⌜ r ≡ (wholeWords (now (image .entry)) && leb (length (wordsOf (now (image .entry)))) 16384) ⌝ }
+{
+    (image.len() % 4 == 0) & (image.len() / 4 <= 16384)
+}

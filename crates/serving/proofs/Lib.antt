@@ -1,0 +1,2 @@
+pub mod ServedRules
+pub mod CallsRules

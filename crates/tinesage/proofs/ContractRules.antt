@@ -1,0 +1,44 @@
+-- Each contract from that of the request on bytes and of the answer's layout. Assumes nothing.
+use mathlib.Core.Path.{_≡_, refl, sym, ap, _∙_}
+use mathlib.Core.List.{List}
+use Prim.Native.Nat.{ℕ, _<_}
+use Rattle.definitions.specs.declared.Answer.{Answer}
+use Rattle.definitions.specs.declared.Checked.{Checked}
+use Rattle.definitions.specs.declared.Compiled.{Compiled}
+use Rattle.definitions.specs.Host.{checkBytes, compileBytes, answerWords, checkedWords, compiledWords, answerBytes}
+use Rattle.places.specs.Named.{checkedPlace, compiledPlace}
+use Rattle.translation.specs.PlacesBelow.{check-place, compile-place}
+use Rattle.serving.specs.Served.{Answered, AnsweredCall}
+
+pub both : (r : Answer) (after : List ℕ) (x : Answer × List ℕ) (answer answer′ : List ℕ) → Answered r after x → answer′ ≡ answerBytes answer (answerWords r)
+    → (after ≡ x .1) × (answer′ ≡ answerBytes answer (answerWords (x .0)))
+both r after x answer answer′ a e =
+    (ap (λ (y : Answer × List ℕ). y .1) (a .gives), e ∙ ap (λ (y : Answer × List ℕ). answerBytes answer (answerWords (y .0))) (a .gives))
+
+pub all : (r : Answer) (after trace : List ℕ) (x : Answer × List ℕ × List ℕ) (answer answer′ : List ℕ) → AnsweredCall r after trace x
+    → answer′ ≡ answerBytes answer (answerWords r) → (after ≡ x .1) × (trace ≡ x .2) × (answer′ ≡ answerBytes answer (answerWords (x .0)))
+all r after trace x answer answer′ a e = (
+  ap (λ (y : Answer × List ℕ × List ℕ). y .1) (a .gives),
+  ap (λ (y : Answer × List ℕ × List ℕ). y .2) (a .gives),
+  e ∙ ap (λ (y : Answer × List ℕ × List ℕ). answerBytes answer (answerWords (y .0))) (a .gives),
+)
+
+-- the checker's answer
+pub check-fits : (image : List ℕ) (r : Checked) → r ≡ checkBytes image → checkedPlace r < 4294967296
+check-fits image r e = rw e (check-place image)
+
+pub check-put : (image : List ℕ) (r : Checked) (answer answer′ : List ℕ) → r ≡ checkBytes image → answer′ ≡ answerBytes answer (checkedWords r)
+    → answer′ ≡ answerBytes answer (checkedWords (checkBytes image))
+check-put image r answer answer′ e h = h ∙ ap (λ (x : Checked). answerBytes answer (checkedWords x)) e
+
+-- the compiler's answer
+pub compile-fits : (image out after : List ℕ) (r : Compiled) → _≡_ {A = Compiled × List ℕ} (r, after) (compileBytes image out) → compiledPlace r < 4294967296
+compile-fits image out after r e = let z : r ≡ compileBytes image out .0 = ap (λ (x : Compiled × List ℕ). x .0) e in rw z (compile-place image out)
+
+pub compile-put : (image out after : List ℕ) (r : Compiled) (answer answer′ : List ℕ) → _≡_ {A = Compiled × List ℕ} (r, after) (compileBytes image out)
+    → answer′ ≡ answerBytes answer (compiledWords r)
+    → (after ≡ compileBytes image out .1) × (answer′ ≡ answerBytes answer (compiledWords (compileBytes image out .0)))
+compile-put image out after r answer answer′ e h = (
+  ap (λ (x : Compiled × List ℕ). x .1) e,
+  h ∙ ap (λ (x : Compiled × List ℕ). answerBytes answer (compiledWords (x .0))) e,
+)

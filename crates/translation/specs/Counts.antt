@@ -1,0 +1,60 @@
+-- How many words the compiler wrote: no more than there is room for. Assumes nothing.
+use mathlib.Core.Path.{_≡_, refl}
+use mathlib.Core.Bool.{Bool, true, false}
+use mathlib.Core.List.{List, _++_}
+use Prim.Native.Nat.{ℕ, _/_, _≤_}
+use native.Mathlib.Omega.{arith}
+use borrow.Author.Tests.{leb-true}
+use lib.Dec.{leb, eqb}
+use lib.ListN.{length, drop}
+use Rattle.definitions.specs.Choice.{pick}
+use Rattle.definitions.specs.Bytes.{wordsOf}
+use Rattle.definitions.specs.Image.{Image}
+use Rattle.definitions.specs.Reading.{Parse, got, refused, readImage}
+use Rattle.definitions.specs.Checking.{faultOf}
+use Rattle.definitions.specs.Encoding.{imageWords}
+use Rattle.definitions.specs.Compiling.{compiledImage, fits, written, compiledTree, compiled}
+use Rattle.definitions.specs.Host.{wholeWords, compileBytes}
+use Rattle.definitions.specs.declared.Compiled.{Compiled}
+use Rattle.definitions.specs.declared.Compiled.the-variants.{Written, Refused}
+use Rattle.words.proofs.Laws.{length-wordsOf}
+
+abbrev pub countOf : Compiled → ℕ
+countOf (Written n) = n
+countOf (Refused k p) = 0
+
+abbrev pub Output : Type 0
+Output = Compiled × List ℕ
+
+-- the compiler's answer by its three tests
+abbrev pub placed : Bool → List ℕ → List ℕ → Output
+placed f ws out =
+    pick f (pick (leb (length ws) (length out)) (Written (length ws), ws ++ drop (length ws) out) (Refused 16 0, out)) (Refused 15 0, out)
+
+count-placed : (f : Bool) (ws out : List ℕ) → countOf (placed f ws out .0) ≤ length out
+count-placed false ws out = omega arith
+count-placed true ws out = go (leb (length ws) (length out)) refl
+  where
+    go : (t : Bool) → leb (length ws) (length out) ≡ t
+        → countOf (pick {A = Output} t (Written (length ws), ws ++ drop (length ws) out) (Refused 16 0, out) .0) ≤ length out
+    go true e = leb-true (length ws) (length out) e
+    go false e = omega arith
+
+-- no more words are written than there is room for
+pub count-within : (x : Parse Image) (out : List ℕ) → countOf (compiledTree x out .0) ≤ length out
+unfolding compiledTree written
+count-within (refused n p) out = omega arith
+count-within (got image n) out = go (eqb (faultOf image .number) 0) (eqb (image .form) 0)
+  where
+    go : (t s : Bool) → countOf (pick {A = Output} t (pick s (written (compiledImage image) out) (Refused 14 0, out)) (Refused (faultOf image .number) (faultOf image .place), out) .0) ≤ length out
+    go true true = count-placed (fits (compiledImage image)) (imageWords (compiledImage image)) out
+    go true false = omega arith
+    go false s = omega arith
+
+-- the same for lent bytes
+pub compile-count : (image out : List ℕ) → countOf (compileBytes image out .0) ≤ length out / 4
+unfolding compileBytes compiled
+compile-count image out =
+    let h : countOf (compiledTree (readImage (wholeWords image) (wordsOf image)) (wordsOf out) .0) ≤ length (wordsOf out) =
+    count-within (readImage (wholeWords image) (wordsOf image)) (wordsOf out) in
+    rw length-wordsOf at h

@@ -1,0 +1,48 @@
+-- Every place that the checker or the compiler answers for lent bytes is within the first 16,384 words or at their end, so it fits a word. Assumes nothing.
+use mathlib.Core.Path.{_≡_, refl, sym, ap, _∙_}
+use mathlib.Core.Bool.{Bool, _&&_}
+use mathlib.Core.List.{List}
+use Prim.Native.Nat.{ℕ, _≤_, _<_}
+use native.Mathlib.Omega.{arith}
+use lib.Dec.{leb}
+use lib.ListN.{length, take, length-take}
+use Rattle.definitions.specs.Bytes.{wordsOf, lent}
+use Rattle.definitions.specs.Reading.{readImage}
+use Rattle.definitions.specs.Checking.{judged, checked}
+use Rattle.definitions.specs.Compiling.{compiledTree, compiled}
+use Rattle.definitions.specs.Host.{wholeWords, checkBytes, compileBytes}
+use Rattle.image_bytes.specs.FirstWords.{same-read}
+use Rattle.places.specs.Named.{checkedPlace, compiledPlace}
+use Rattle.places.specs.Answers.{checked-within, compiled-within}
+
+-- what read_image leaves of an image, and what admissible answers
+abbrev pub front : List ℕ → List ℕ
+front image = take 16384 (wordsOf image)
+
+abbrev pub admitted : List ℕ → Bool
+admitted image = wholeWords image && leb (length (wordsOf image)) 16384
+
+-- the answers by the words that are read
+pub check-front : (image part : List ℕ) (whole : Bool) → part ≡ front image → whole ≡ admitted image → checked whole part ≡ checkBytes image
+unfolding checkBytes checked
+check-front image part whole e w = ap judged (same-read image part whole e w)
+
+pub compile-front : (image part out : List ℕ) (whole : Bool) → part ≡ front image → whole ≡ admitted image
+    → compiled whole part out ≡ compiled (wholeWords image) (wordsOf image) out
+unfolding compiled
+compile-front image part out whole e w = ap (λ x. compiledTree x out) (same-read image part whole e w)
+
+pub check-place : (image : List ℕ) → checkedPlace (checkBytes image) < 4294967296
+check-place image =
+    let e : checked (admitted image) (front image) ≡ checkBytes image = check-front image (front image) (admitted image) refl refl in
+    let few : length (front image) ≤ 16384 = simp length-take (omega arith) in
+    let h : checkedPlace (checkBytes image) ≤ length (front image) = rw e at (checked-within (admitted image) (front image)) in
+    omega arith
+
+pub compile-place : (image out : List ℕ) → compiledPlace (compileBytes image out .0) < 4294967296
+unfolding compileBytes
+compile-place image out =
+    let e = compile-front image (front image) (wordsOf out) (admitted image) refl refl in
+    let few : length (front image) ≤ 16384 = simp length-take (omega arith) in
+    let h = rw e at (compiled-within (admitted image) (front image) (wordsOf out)) in
+    omega arith

@@ -1,0 +1,134 @@
+/*
+ * A short host. It compiles the paper's example image, loads source and compiled form in turn, and calls each with two
+ * values of its secret parameter: the source's trace tells them apart, the compiled form's does not. Then it loads an
+ * image with an array, pokes its cells and calls the procedure that adds them up.
+ */
+#include <stdio.h>
+#include <stdlib.h>
+#include <string.h>
+
+#include "tinesage.h"
+#include "words.h"
+
+#define TRACE_WORDS 64
+
+/* One secret parameter: returns 1 where it is 7, else 0. */
+static const uint32_t example[] = {
+    0x10000001, 0x30000100, 0x40000001, 0x40000001, 0x50000002, 0x60020000, 0xD000000B, 0xA0000000,
+    0x70000007, 0x50000001, 0x60040000, 0x70000001, 0x50000000, 0x60040000, 0x70000000,
+};
+
+/* A secret array of 4 cells: for i from 0 to 4, total := total + cell i; returns total. */
+static const uint32_t adder[] = {
+    0x10000101, 0x20010004, 0x30000002, 0x40000001, 0x40000000, 0x40000001, 0x50000002, 0x60030000, 0x70000000,
+    0x70000004, 0x50000001, 0x60000001, 0xD0000000, 0xA0000001, 0xB0000000, 0xA0000000, 0x60040000, 0xA0000001,
+};
+
+/* what this host lends with each request */
+static uint8_t image[4 * TINESAGE_MOST_WORDS];
+static size_t image_length;
+static uint8_t cells[4 * TINESAGE_MOST_CELLS];
+
+static void take_image(const uint32_t *words, size_t count)
+{
+    for (size_t i = 0; i < count; i++)
+        put_word(image, i, words[i]);
+    image_length = 4 * count;
+}
+
+static void expect_done(const char *what, struct answer a)
+{
+    if (a.status == TINESAGE_DONE)
+        return;
+    printf("%s: number %u at word %u\n", what, (unsigned)a.number, (unsigned)a.place);
+    exit(EXIT_FAILURE);
+}
+
+static void load(void)
+{
+    uint8_t answer[TINESAGE_ANSWER];
+    tinesage_load(image, image_length, cells, sizeof cells, answer, sizeof answer);
+    expect_done("load", answer_in(answer));
+}
+
+/* the compiled form is this host's image from then on */
+static void compile(void)
+{
+    static uint8_t out[sizeof image];
+    uint8_t answer[TINESAGE_ANSWER];
+    tinesage_compile(image, image_length, out, sizeof out, answer, sizeof answer);
+    expect_done("compile", answer_in(answer));
+    image_length = 4 * (size_t)answer_in(answer).count;
+    memcpy(image, out, image_length);
+}
+
+static void print_image(void)
+{
+    for (size_t i = 0; i < image_length / 4; i++)
+        printf("%s%08X", i % 8 == 0 ? "\n    " : " ", (unsigned)word_at(image, i));
+    puts("");
+}
+
+static void print_trace(const uint8_t *trace, uint64_t count)
+{
+    static const char *const kinds[] = {"?",        "branch",  "loop from", "loop to", "index",
+                                        "dividend", "divisor", "call",      "return"};
+    for (uint64_t i = 0; i + 1 < count; i += 2) {
+        uint32_t entry = word_at(trace, i);
+        uint32_t kind = entry >> 28;
+        printf("    %08X %08X  %s at word %u\n", (unsigned)entry, (unsigned)word_at(trace, i + 1),
+               kinds[kind <= 8 ? kind : 0], (unsigned)(entry & 0x0FFFFFFF));
+    }
+}
+
+/* calls procedure 0 with at most 100 steps */
+static void call(const char *title, const uint32_t *values, size_t count)
+{
+    uint8_t arguments[4 * 9], trace[4 * TRACE_WORDS], answer[TINESAGE_ANSWER];
+    for (size_t i = 0; i < count; i++)
+        put_word(arguments, i, values[i]);
+    tinesage_call(image, image_length, cells, sizeof cells, 0, arguments, 4 * count, 100, trace, sizeof trace, answer,
+                  sizeof answer);
+    struct answer a = answer_in(answer);
+    if (a.status == TINESAGE_DONE)
+        printf("  %s: %u in %u steps\n", title, (unsigned)a.result, (unsigned)a.steps);
+    else
+        printf("  %s: number %u at word %u\n", title, (unsigned)a.number, (unsigned)a.place);
+    print_trace(trace, a.count);
+}
+
+static void call_with_7_and_6(void)
+{
+    call("argument 7", (const uint32_t[]){7}, 1);
+    call("argument 6", (const uint32_t[]){6}, 1);
+}
+
+static void add_up(void)
+{
+    uint8_t answer[TINESAGE_ANSWER];
+    take_image(adder, sizeof adder / sizeof adder[0]);
+    load();
+    for (uint32_t i = 0; i < 4; i++) {
+        tinesage_poke(image, image_length, cells, sizeof cells, 0, i, 10 * (i + 1), answer, sizeof answer);
+        expect_done("poke", answer_in(answer));
+    }
+    call("cells 10, 20, 30, 40", NULL, 0);
+}
+
+int main(void)
+{
+    puts("The paper's example, as source:");
+    take_image(example, sizeof example / sizeof example[0]);
+    load();
+    call_with_7_and_6();
+
+    printf("The same, compiled:");
+    compile();
+    print_image();
+    load();
+    call_with_7_and_6();
+
+    puts("An array of four cells, added up:");
+    add_up();
+    return 0;
+}

@@ -1,0 +1,276 @@
+/*
+ * What each lent byte holds after a request: slices with spare words and odd lengths, slices that are too short for the
+ * answer, refusals and stops. Prints 'N passed, M failed' as its last line.
+ */
+#include <stdio.h>
+#include <stdlib.h>
+#include <string.h>
+
+#include "tinesage.h"
+#include "words.h"
+
+static unsigned passed, failed;
+
+static void expect(const char *what, int holds)
+{
+    if (holds) {
+        passed++;
+    } else {
+        failed++;
+        printf("FAILED: %s\n", what);
+    }
+}
+
+/* Two cells, one parameter x: cell 1 := x; then a return of cell x, which stops with 23 unless x is 0 or 1. */
+static const uint32_t writer_words[] = {
+    0x10000101, 0x20000002, 0x30000100, 0x40000000, 0x40000000, 0x50000002,
+    0x60010000, 0x70000001, 0xA0000000, 0x60040000, 0xB0000000, 0xA0000000,
+};
+#define WRITER_WORDS (sizeof writer_words / sizeof writer_words[0])
+
+static uint8_t writer[4 * WRITER_WORDS];
+
+/* A slice under test and the bytes that it must hold afterwards; both start with bytes that no request writes. */
+#define LONGEST 256
+struct watched {
+    uint8_t lent[LONGEST];
+    uint8_t expected[LONGEST];
+};
+
+static void reset(struct watched *w)
+{
+    for (size_t i = 0; i < LONGEST; i++)
+        w->lent[i] = w->expected[i] = (uint8_t)(0xA5 ^ (i * 7));
+}
+
+static int as_expected(const struct watched *w)
+{
+    return memcmp(w->lent, w->expected, LONGEST) == 0;
+}
+
+static void expect_answer(struct watched *w, const uint32_t words[7])
+{
+    for (size_t i = 0; i < 7; i++)
+        put_word(w->expected, i, words[i]);
+}
+
+/* The seven functions with one set of slices; the cells are lent with three spare words and three spare bytes. */
+#define CELLS_LENT (4 * 5 + 3)
+static struct watched answer, cells, out, trace;
+static size_t answer_length, trace_length, out_length;
+
+static void reset_all(void)
+{
+    reset(&answer);
+    reset(&cells);
+    reset(&out);
+    reset(&trace);
+    answer_length = TINESAGE_ANSWER;
+    trace_length = out_length = LONGEST;
+}
+
+static void expect_all(const char *what)
+{
+    expect(what, as_expected(&answer) && as_expected(&cells) && as_expected(&out) && as_expected(&trace));
+}
+
+static void check(size_t image_length)
+{
+    tinesage_check(writer, image_length, answer.lent, answer_length);
+}
+
+static void compile(void)
+{
+    tinesage_compile(writer, sizeof writer, out.lent, out_length, answer.lent, answer_length);
+}
+
+static void load(size_t cells_length)
+{
+    tinesage_load(writer, sizeof writer, cells.lent, cells_length, answer.lent, answer_length);
+}
+
+static void clear(size_t cells_length)
+{
+    tinesage_clear(writer, sizeof writer, cells.lent, cells_length, answer.lent, answer_length);
+}
+
+static void poke(uint32_t index, uint32_t value)
+{
+    tinesage_poke(writer, sizeof writer, cells.lent, CELLS_LENT, 0, index, value, answer.lent, answer_length);
+}
+
+static void peek(uint32_t index)
+{
+    tinesage_peek(writer, sizeof writer, cells.lent, CELLS_LENT, 0, index, answer.lent, answer_length);
+}
+
+static void call(uint32_t argument, size_t arguments_length, uint32_t budget)
+{
+    uint8_t arguments[12] = {0};
+    put_word(arguments, 0, argument);
+    tinesage_call(writer, sizeof writer, cells.lent, CELLS_LENT, 0, arguments, arguments_length, budget, trace.lent,
+                  trace_length, answer.lent, answer_length);
+}
+
+static void check_cases(void)
+{
+    reset_all();
+    check(sizeof writer);
+    expect_answer(&answer, (const uint32_t[7]){0});
+    expect_all("check: accepted");
+    reset_all();
+    check(sizeof writer - 1);
+    expect_answer(&answer, (const uint32_t[7]){2, 1});
+    expect_all("check: a byte too few");
+}
+
+static void compile_cases(void)
+{
+    for (size_t spare = 0; spare < 8; spare++) {
+        reset_all();
+        out_length = sizeof writer + spare;
+        compile();
+        expect_answer(&answer, (const uint32_t[7]){0, 0, 0, 0, 0, 0, WRITER_WORDS});
+        memcpy(out.expected, writer, sizeof writer);
+        put_word(out.expected, 0, 0x10010101);
+        expect_all("compile: only the result is written");
+    }
+    for (size_t missing = 1; missing <= sizeof writer; missing++) {
+        reset_all();
+        out_length = sizeof writer - missing;
+        compile();
+        expect_answer(&answer, (const uint32_t[7]){2, 16});
+        expect_all("compile: a short slice stays");
+    }
+}
+
+/* the image's two cells are 0 where so many bytes hold them */
+static void expect_zeroed(const char *what, size_t length)
+{
+    int room = length >= 8;
+    expect_answer(&answer, room ? (const uint32_t[7]){0} : (const uint32_t[7]){2, 17});
+    memset(cells.expected, 0, room ? 8 : 0);
+    expect_all(what);
+}
+
+static void load_and_clear_cases(void)
+{
+    for (size_t length = 0; length <= CELLS_LENT; length++) {
+        reset_all();
+        load(length);
+        expect_zeroed("load: the image's cells are 0, or all stay", length);
+        reset_all();
+        clear(length);
+        expect_zeroed("clear: the image's cells are 0, or all stay", length);
+    }
+}
+
+static void poke_and_peek_cases(void)
+{
+    for (uint32_t index = 0; index < 4; index++) {
+        int there = index < 2;
+        reset_all();
+        poke(index, 0x12345678);
+        expect_answer(&answer, there ? (const uint32_t[7]){0} : (const uint32_t[7]){2, 17});
+        if (there)
+            put_word(cells.expected, index, 0x12345678);
+        expect_all("poke: one cell is written, or none");
+        reset_all();
+        peek(index);
+        expect_answer(&answer,
+                      there ? (const uint32_t[7]){0, 0, 0, word_at(cells.lent, index)} : (const uint32_t[7]){2, 17});
+        expect_all("peek: the cell, and all stay");
+    }
+}
+
+/* the entries of a run: index 1 at the store, the index x at word 10, the return at word 9 */
+static const uint32_t entries[] = {0x40000006, 1, 0x4000000A, 1, 0x80000009, 0};
+
+static void expect_trace(uint32_t count, uint32_t index)
+{
+    for (uint32_t i = 0; i < count; i++)
+        put_word(trace.expected, i, i == 3 ? index : entries[i]);
+}
+
+static void call_cases(void)
+{
+    for (size_t length = 24; length < 32; length++) {
+        reset_all();
+        trace_length = length;
+        call(1, 4 + length % 4, 2);
+        expect_answer(&answer, (const uint32_t[7]){0, 0, 0, 1, 2, 0, 6});
+        put_word(cells.expected, 1, 1);
+        expect_trace(6, 1);
+        expect_all("call: done, with spare bytes in the arguments and the trace");
+    }
+}
+
+static void full_trace_cases(void)
+{
+    static const uint32_t places[] = {6, 10, 9};
+    for (uint32_t length = 0; length < 24; length++) {
+        uint32_t room = length / 8;
+        reset_all();
+        trace_length = length;
+        call(1, 4, 2);
+        expect_answer(&answer, (const uint32_t[7]){1, 22, places[room], 0, room == 0 ? 1 : 2, 0, 2 * room});
+        expect_trace(2 * room, 1);
+        expect_all("call: trace full, cells as before");
+    }
+}
+
+static void stop_and_refusal_cases(void)
+{
+    reset_all();
+    call(2, 4, 2);
+    expect_answer(&answer, (const uint32_t[7]){1, 23, 10, 0, 2, 0, 4});
+    expect_trace(4, 2);
+    expect_all("call: index beyond the array, cells as before");
+    reset_all();
+    call(1, 4, 1);
+    expect_answer(&answer, (const uint32_t[7]){1, 21, 9, 0, 1, 0, 2});
+    expect_trace(2, 1);
+    expect_all("call: budget spent, cells as before");
+    reset_all();
+    call(1, 3, 2);
+    expect_answer(&answer, (const uint32_t[7]){2, 18});
+    expect_all("call: refused, and all stay");
+}
+
+/* a slice too short for the answer stays, and the request is carried out; in a longer one the rest stays */
+static void answer_cases(void)
+{
+    for (size_t length = 0; length < 2 * TINESAGE_ANSWER; length++) {
+        reset_all();
+        answer_length = length;
+        poke(1, 0xCAFEF00D);
+        if (length >= TINESAGE_ANSWER)
+            expect_answer(&answer, (const uint32_t[7]){0});
+        put_word(cells.expected, 1, 0xCAFEF00D);
+        expect_all("poke: the answer's slice");
+        reset(&answer);
+        reset(&cells);
+        call(1, 4, 2);
+        if (length >= TINESAGE_ANSWER)
+            expect_answer(&answer, (const uint32_t[7]){0, 0, 0, 1, 2, 0, 6});
+        put_word(cells.expected, 1, 1);
+        expect_trace(6, 1);
+        expect_all("call: the answer's slice");
+    }
+}
+
+int main(void)
+{
+    for (size_t i = 0; i < WRITER_WORDS; i++)
+        put_word(writer, i, writer_words[i]);
+    check_cases();
+    compile_cases();
+    load_and_clear_cases();
+    poke_and_peek_cases();
+    call_cases();
+    full_trace_cases();
+    stop_and_refusal_cases();
+    answer_cases();
+    printf("%u passed, %u failed\n", passed, failed);
+    return failed == 0 ? EXIT_SUCCESS : EXIT_FAILURE;
+}
