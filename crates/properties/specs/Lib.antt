@@ -6,5 +6,3 @@ pub mod Refusals
 -- Property 2: a compiled image and its source
 pub mod Compiled
 pub mod CompiledBytes
--- Properties 2 and 3, side by side
-pub mod Promises

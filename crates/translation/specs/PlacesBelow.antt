@@ -1,13 +1,12 @@
 -- Every place that the checker or the compiler answers for lent bytes is within the first 16,384 words or at their end, so it fits a word. Assumes nothing.
-use mathlib.Core.Path.{_≡_, refl, sym, ap, _∙_}
+use mathlib.Core.Path.{_≡_, refl, ap}
 use mathlib.Core.Bool.{Bool, _&&_}
 use mathlib.Core.List.{List}
 use Prim.Native.Nat.{ℕ, _≤_, _<_}
 use native.Mathlib.Omega.{arith}
 use lib.Dec.{leb}
 use lib.ListN.{length, take, length-take}
-use Rattle.definitions.specs.Bytes.{wordsOf, lent}
-use Rattle.definitions.specs.Reading.{readImage}
+use Rattle.definitions.specs.Bytes.{wordsOf}
 use Rattle.definitions.specs.Checking.{judged, checked}
 use Rattle.definitions.specs.Compiling.{compiledTree, compiled}
 use Rattle.definitions.specs.Host.{wholeWords, checkBytes, compileBytes}

@@ -1,17 +1,22 @@
 -- What the compiler and the machine promise beyond the definitions themselves, one statement each. They are stated over the definitions that
 -- the code is proved equal to. Assumes nothing.
-use Prim.Native.Nat.{ℕ, _*_}
+use Prim.Native.Nat.{ℕ, _*_, _≤_}
 use mathlib.Core.Bool.{Bool}
 use mathlib.Core.List.{List}
 use mathlib.Core.Path.{_≡_}
 use lib.ListN.{length, take}
+use Rattle.definitions.specs.declared.Answer.the-variants.{Done}
 use Rattle.definitions.specs.declared.Compiled.the-variants.{Written}
 use Rattle.definitions.specs.Compiling.{compiled}
 use Rattle.definitions.specs.Host.{compileBytes}
-use Rattle.secrecy.specs.Sessions.{Request, empty, AlikeLists, SameTurns}
+use Rattle.secrecy.specs.Sessions.{Request, Response, empty, AlikeLists, SameTurns}
 use Rattle.secrecy.specs.Secrecy.{secrecy}
 use Rattle.properties.specs.Compiled.{KeepsMeaning, compiled-keeps-meaning}
 use Rattle.properties.specs.CompiledBytes.{KeepsMeaningBytes, compiled-bytes-keep-meaning}
+use Rattle.tinesage.specs.Contracts.{Compiles}
+use Rattle.promises.specs.AnswerBytes.{answerIn}
+use Rattle.promises.specs.CompiledByFunctions.{KeepsMeaningFunctions, functions-keep-meaning}
+use Rattle.promises.specs.Sessions.{Session, SameSessions, same-sessions}
 
 -- Property 2, "compiled and source runs are compared with that 1". For every source image that the compiler compiles (so the checker accepts it):
 -- the words it writes are accepted as form 1 over the same arrays; and for every procedure, arguments (with 1 for the guard where the source's
@@ -37,3 +42,21 @@ pub property-3 :
     (cells cells′ : List ℕ) (requests requests′ : List Request) → length cells ≡ length cells′ → AlikeLists (empty cells) requests requests′
     → SameTurns (empty cells) (empty cells′) requests requests′
 property-3 = secrecy
+
+-- ---- The same of the C functions, from their contracts (Contracts, of the crate tinesage)
+
+-- Property 2. A host lends at least 28 bytes for each answer and reads it there (AnswerBytes). Where tinesage_compile answers that it is done and wrote
+-- n words, checking, loading, poking, peeking, clearing and calling them with the C functions is what KeepsMeaningFunctions says (CompiledByFunctions).
+pub property-2-functions :
+    (image out answer out′ answer′ : List ℕ) (result steps n : ℕ) → 28 ≤ length answer → Compiles image out answer out′ answer′
+    → answerIn answer′ ≡ Done result steps n → KeepsMeaningFunctions image (take (4 * n) out′)
+property-2-functions = functions-keep-meaning
+
+-- Property 3. Two hosts drive the C functions, each as its own list of requests says and with the machine as the request before left it (Session).
+-- Where the lists are alike, an onlooker sees the same at every turn of the two sessions (SameSessions).
+pub property-3-functions :
+    (cells cells′ : List ℕ) (requests requests′ : List Request) (responses responses′ : List Response) → length cells ≡ length cells′
+    → AlikeLists (empty cells) requests requests′ → Session (empty cells) requests responses → Session (empty cells′) requests′ responses′
+    → SameSessions (empty cells) requests responses responses′
+property-3-functions cells cells′ requests requests′ responses responses′ e alike s t =
+    same-sessions (property-3 cells cells′ requests requests′ e alike) s t

@@ -1,0 +1,3 @@
+pub mod DigitRules
+pub mod LineRules
+pub mod AnswerRules

@@ -1,0 +1,30 @@
+use mathlib.Core.Path.{_≡_, refl}
+use Prim.Native.Nat.{_-_, _≤_}
+use native.Mathlib.Omega.{arith}
+use lib.ListN.{length}
+use lib.Seq.{paste, paste-zero}
+use Rattle.printing.proofs.DigitRules.{copy-more, copied}
+use borrow.Author.Needs.{needs}
+use Rattle.printing.proofs.copy.Statement.{statement}
+use Rattle.printing.proofs.copy.Tie as tie
+use Rattle.printing.proofs.copy.Reads as reads
+use Rattle.printing.proofs.copy.Lts as lts
+
+abbrev Inv-loop : tie.InvT-loop
+Inv-loop digits text₀ at i₀ text i = (i ≤ length digits) × (length text ≡ length text₀) × (text ≡ paste text₀ at digits i)
+
+abbrev μ-loop : tie.MeasureT-loop
+μ-loop digits text₀ at i₀ text i = length digits - i
+
+pub copy-spec : {M : Type 1} → statement M
+copy-spec = tie.close (tie.spec Inv-loop μ-loop
+    (λ c. (omega arith, refl, paste-zero (c .args .text .now) (c .args .at) (c .args .digits .now)))  -- loop-holds
+    (λ c. search needs)  -- shared-slice-read-text
+    (λ c. search needs)  -- add-text
+    (λ c. search needs)  -- slice-write-text
+    (λ c. search needs)  -- add-i
+    (λ c. search needs)  -- loop-less
+    (λ c. (omega arith, search needs, copy-more (c .before .before .before .args .text .now) (c .before .before .before .args .digits .now) (c .before .before .before .args .at) (c .before .before .loop .i) (c .before .before .loop .text) (omega arith) (omega arith) (c .before .before .loop .inv .2)))  -- loop-again
+    (λ c. search needs)  -- same-length
+    (λ c. copied (c .before .before .args .text .now) (c .before .before .args .digits .now) (c .before .before .args .at) (c .before .loop .i) (c .before .loop .text) (omega arith) (c .before .loop .inv .2))  -- returns
+    )

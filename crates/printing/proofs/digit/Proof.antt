@@ -1,0 +1,16 @@
+use Rattle.printing.proofs.DigitRules.{low-digit, high-digit}
+use borrow.Author.Needs.{needs}
+use Rattle.printing.proofs.digit.Statement.{statement}
+use Rattle.printing.proofs.digit.Tie as tie
+use Rattle.printing.proofs.digit.Reads as reads
+use Rattle.printing.proofs.digit.Lts as lts
+
+pub digit-spec : {M : Type 1} → statement M
+digit-spec = tie.close (tie.spec
+    (λ c. search needs)  -- add-result
+    (λ c. search needs)  -- cast-result
+    (λ c. low-digit _ (c .if1 .taken))  -- returns
+    (λ c. search needs)  -- add-result-2
+    (λ c. search needs)  -- cast-result-2
+    (λ c. high-digit _ (c .if1 .left))  -- returns-2
+    )

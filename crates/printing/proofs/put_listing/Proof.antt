@@ -1,0 +1,34 @@
+use mathlib.Core.Path.{_≡_, refl}
+use Prim.Native.Nat.{_-_, _*_, _≤_}
+use native.Mathlib.Omega.{arith}
+use lib.ListN.{length, take}
+use Rattle.definitions.specs.Bytes.{wordsOf}
+use Rattle.printing.specs.Text.{listing}
+use Rattle.printing.proofs.LineRules.{line-more, lines-whole}
+use borrow.Author.Needs.{needs}
+use Rattle.printing.proofs.put_listing.Statement.{statement}
+use Rattle.printing.proofs.put_listing.Tie as tie
+use Rattle.printing.proofs.put_listing.Reads as reads
+use Rattle.printing.proofs.put_listing.Lts as lts
+use Rattle.printing.proofs.line_byte.Reads as line-byte-reads
+use Rattle.words.proofs.word.Reads as word-reads
+
+abbrev Inv-loop : tie.InvT-loop
+Inv-loop bytes n text₀ end j₀ text j = (j ≤ 9 * n) × (length text ≡ length text₀) × (take j text ≡ take j (listing (take n (wordsOf bytes))))
+
+abbrev μ-loop : tie.MeasureT-loop
+μ-loop bytes n text₀ end j₀ text j = 9 * n - j
+
+pub put-listing-spec : {M : Type 1} → statement M
+put-listing-spec = tie.close (tie.spec Inv-loop μ-loop
+    (λ c. search needs)  -- mul-end
+    (λ c. (omega arith, refl, refl))  -- loop-holds
+    (λ c κs. search needs)  -- word-requires
+    (λ c κs. search needs)  -- line-byte-requires
+    (λ c. search needs)  -- slice-write-text
+    (λ c. search needs)  -- add-j
+    (λ c. search needs)  -- loop-less
+    (λ c. (omega arith, search needs, line-more (c .before .before .before .before .before .before .args .bytes .now) (c .before .before .before .before .before .before .args .n) (c .before .before .before .before .before .before .pre .1) (c .before .before .before .loop .text) (c .before .before .before .loop .j) _ _ (omega arith) (omega arith) (c .before .word .ensures) (c .line-byte .ensures) (c .before .before .before .loop .inv .2)))  -- loop-again
+    (λ c. search needs)  -- same-length
+    (λ c. (omega arith, lines-whole (c .before .before .before .before .args .bytes .now) (c .before .before .before .before .args .n) (c .before .before .before .before .pre .1) (c .before .loop .text) (c .before .loop .j) (omega arith) (c .before .loop .inv .0) (c .before .loop .inv .2)))  -- returns
+    )

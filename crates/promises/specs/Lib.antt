@@ -1,0 +1,4 @@
+pub mod AnswerBytes
+pub mod Sessions
+pub mod CompiledByFunctions
+pub mod Promises

@@ -1,0 +1,1 @@
+// Laws only: the product's properties, over the definitions and over the C functions (specs/).
