@@ -3,7 +3,9 @@
 use std::hint::black_box;
 use std::time::{Duration, Instant};
 
-use crate::workloads::{hot_loop, long_source, small_routine, untaken_arm, Call, Workload};
+use crate::workloads::{
+    hot_loop, long_source, nested_fors, small_routine, untaken_arm, Call, Workload,
+};
 use crate::{compile, library, second, words};
 
 /// Long enough for the trace of every workload: the branch in a loop leaves two words a pass.
@@ -58,6 +60,12 @@ fn least_times<T, U>(library: impl FnMut() -> T, second: impl FnMut() -> U) -> P
 
 fn time_check(image: &[u8]) -> Pair {
     assert!(library::check(image) && second::check(image), "a workload is refused");
+    time_answer(image)
+}
+
+/// As `time_check`, for an image that may be refused.
+fn time_answer(image: &[u8]) -> Pair {
+    assert!(library::check(image) == second::check(image), "answers differ");
     least_times(|| library::check(black_box(image)), || second::check(black_box(image)))
 }
 
@@ -177,4 +185,28 @@ pub fn growth_table(passes: u32) {
     growth_rows("untaken arm", "run", "arm words", LONGEST_ARM, |n| {
         run(untaken_arm(passes / 8, n))
     });
+}
+
+// ---- fors inside each other ----
+
+/// A for's body is checked with the rc that it ends with. A return under a secret if makes that rc secret;
+/// a checker that walked each body twice for it would take 2^16 times as long for sixteen fors.
+pub fn nesting_table() {
+    println!();
+    println!("| fors inside each other | words | answer | library, microseconds | second program, microseconds |");
+    println!("| --- | ---: | --- | ---: | ---: |");
+    for (form, count) in [(0, 8), (0, 13), (1, 8), (1, 16)] {
+        for returns in [false, true] {
+            let image = nested_fors(form, count, returns);
+            let innermost = if returns { "a return under a secret if" } else { "an assignment" };
+            let answer = if library::check(&image) { "accepted" } else { "refused" };
+            let pair = time_answer(&image);
+            println!(
+                "| {count} in form {form}, with {innermost} | {} | {answer} | {:.2} | {:.2} |",
+                image.len() / 4,
+                pair.library * 1e6,
+                pair.second * 1e6
+            );
+        }
+    }
 }

@@ -97,3 +97,22 @@ pub fn untaken_arm(passes: u32, arm: u32) -> Workload {
     image.extend([statement(words::RETURN, 0), variable(1)]);
     workload("untaken arm", &image, &[])
 }
+
+/// So many fors inside each other, in form 0 or 1; in the innermost an assignment, or a return under a secret if.
+/// Its procedure has a secret boolean parameter.
+pub fn nested_fors(form: u32, count: u32, returns: bool) -> Vec<u8> {
+    let mut image = vec![HEADER | form << 16, procedure(1, count + 1), SECRET_WORD, SECRET_BOOLEAN];
+    image.push(SECRET_WORD);
+    image.extend((0..count).map(|_| PUBLIC_WORD));
+    for number in 0..count {
+        image.extend([block(1), statement(words::FOR, 2 + number), constant(0), constant(2)]);
+    }
+    image.push(block(1));
+    if returns {
+        image.extend([statement(words::IF, 0), variable(0), block(1)]);
+        image.extend([statement(words::RETURN, 0), constant(1), block(0)]);
+    } else {
+        image.extend([statement(words::ASSIGN, 1), constant(1)]);
+    }
+    words::to_bytes(&image)
+}

@@ -1,15 +1,16 @@
 // A lent image's bytes as words, as far as any form admits them.
 ghost use mathlib.Core.Path.{_≡_};
 ghost use mathlib.Core.Bool.{_&&_};
-ghost use Prim.Native.Nat.{_/_, _%_, _≤_};
+ghost use Prim.Native.Nat.{_/_, _%_, _≤_, min};
 ghost use lib.Dec.{eqb, leb};
 ghost use lib.ListN.{length, take};
 ghost use Rattle.definitions.specs.Bytes.{wordsOf};
 ghost use Rattle.definitions.specs.Host.{wholeWords};
 
 // The first 16,384 words of an image, and how many there are: a longer image is refused by its header or its length alone.
-pub fn read_image(image: &[u8], words: &mut [u32; 16384]) -> usize
-    ensures { λ r. ⌜ (r ≤ 16384) × (take r (now (words .exit)) ≡ take 16384 (wordsOf (now (image .entry)))) ⌝ }
+pub fn read_image(image: &[u8], words: &mut [u32]) -> usize
+    requires { ⌜ min (length (now image) / 4) 16384 ≤ length (now words) ⌝ }
+    ensures { λ r. ⌜ (r ≤ 16384) × (r ≤ length (now (words .exit))) × (take r (now (words .exit)) ≡ take 16384 (wordsOf (now (image .entry)))) ⌝ }
 {
     let count = image.len() / 4;
     if count <= 16384 {

@@ -1,4 +1,5 @@
 pub mod AnswerBytes
+pub mod ResultsOfFunctions
 pub mod Sessions
 pub mod CompiledByFunctions
 pub mod Promises

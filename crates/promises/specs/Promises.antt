@@ -14,9 +14,22 @@ use Rattle.secrecy.specs.Secrecy.{secrecy}
 use Rattle.properties.specs.Compiled.{KeepsMeaning, compiled-keeps-meaning}
 use Rattle.properties.specs.CompiledBytes.{KeepsMeaningBytes, compiled-bytes-keep-meaning}
 use Rattle.tinesage.specs.Contracts.{Compiles}
+use Rattle.results.specs.Results.{Results, ResultsOnBytes, property-1-bytes as results-on-bytes}
+use Rattle.results.specs.Results.{property-1 as results}
 use Rattle.promises.specs.AnswerBytes.{answerIn}
+use Rattle.promises.specs.ResultsOfFunctions.{ResultsOfFunctions, results-of-functions}
 use Rattle.promises.specs.CompiledByFunctions.{KeepsMeaningFunctions, functions-keep-meaning}
 use Rattle.promises.specs.Sessions.{Session, SameSessions, same-sessions}
+
+-- Property 1. Every function of the definitions is total, so every image and every call gets an answer. Which answers there are, each with its places:
+-- a result; one of the four stops 21 to 24, with the steps and entries so far, the cells as before; or a refusal, with cells and output as before.
+-- The kinds of answers are in Answers (of the laws "results"), the statement for each request is in Results.
+pub property-1 : Results
+property-1 = results
+
+-- The same for a host, which lends bytes.
+pub property-1-bytes : ResultsOnBytes
+property-1-bytes = results-on-bytes
 
 -- Property 2, "compiled and source runs are compared with that 1". For every source image that the compiler compiles (so the checker accepts it):
 -- the words it writes are accepted as form 1 over the same arrays; and for every procedure, arguments (with 1 for the guard where the source's
@@ -44,6 +57,10 @@ pub property-3 :
 property-3 = secrecy
 
 -- ---- The same of the C functions, from their contracts (Contracts, of the crate tinesage)
+
+-- Property 1. What the host reads in each answer, and what each function leaves unchanged (ResultsOfFunctions).
+pub property-1-functions : ResultsOfFunctions
+property-1-functions = results-of-functions
 
 -- Property 2. A host lends at least 28 bytes for each answer and reads it there (AnswerBytes). Where tinesage_compile answers that it is done and wrote
 -- n words, checking, loading, poking, peeking, clearing and calling them with the C functions is what KeepsMeaningFunctions says (CompiledByFunctions).

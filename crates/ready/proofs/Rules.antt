@@ -157,7 +157,7 @@ module _ (image words : List ℕ) (n count : ℕ) (e : take n words ≡ take 163
   taken : (m cells : ℕ) (tree : Image) → Serves whole (take n words) cells count params places ends tree
       → readyTree (readImage whole (take n words)) count ≡ ready tree → m ≡ length (take n words)
       → (t : Image) × (Serves true (wordsOf image) cells count params places ends t) × (readyToLoad (wholeWords image) (wordsOf image) count ≡ ready t)
-      × (take m words ≡ wordsOf image) × (m ≤ 16384)
+      × (take m words ≡ wordsOf image) × (m ≤ length words)
   taken m cells tree a b l =
       let read : readImage (wholeWords image) (wordsOf image) ≡ got tree (a .end) = sym reads ∙ a .read in
       let i = image-read (wholeWords image) (wordsOf image) tree (a .end) read in
@@ -173,7 +173,7 @@ module _ (image words : List ℕ) (n count : ℕ) (e : take n words ≡ take 163
         },
         sym same-ready ∙ b,
         (rw l (take-own n words)) ∙ spelled,
-        (let s = part-length in omega arith),
+        (let s = length-take n words in omega arith),
       )
 
   pub load-prepared : Prepared r (readyToLoad (wholeWords image) (wordsOf image) count) image words count params places ends

@@ -42,4 +42,4 @@ pub record Judged (r : Ready) (whole : Bool) (words : List ℕ) (count : ℕ) (p
 pub record Prepared (r : Ready) (x : Readiness) (image words : List ℕ) (count : ℕ) (params places ends : List ℕ) : Type 0 where
   pub refusal : (k p : ℕ) → r ≡ Unready k p → (x ≡ unready k p) × (p ≤ 16384)
   pub accepted : (n cells : ℕ) → r ≡ Words n cells
-      → (tree : Image) × (Serves true (wordsOf image) cells count params places ends tree) × (x ≡ ready tree) × (take n words ≡ wordsOf image) × (n ≤ 16384)
+      → (tree : Image) × (Serves true (wordsOf image) cells count params places ends tree) × (x ≡ ready tree) × (take n words ≡ wordsOf image) × (n ≤ length words)

@@ -1,6 +1,6 @@
 // Whether a request can work on a lent image: it is checked anew with every request.
 ghost use mathlib.Core.Path.{_≡_};
-ghost use Prim.Native.Nat.{_+_, _≤_};
+ghost use Prim.Native.Nat.{_+_, _/_, _≤_, min};
 ghost use lib.ListN.{length, getD, take};
 ghost use Rattle.definitions.specs.Bytes.{wordsOf};
 ghost use Rattle.definitions.specs.Image.{arraysOf};
@@ -68,11 +68,12 @@ fn judge_part(
 pub fn ready_to_load(
     image: &[u8],
     count: usize,
-    words: &mut [u32; 16384],
+    words: &mut [u32],
     params: &mut [u32; 32],
     places: &mut [u32; 32],
     ends: &mut [u32],
 ) -> Ready
+    requires { ⌜ min (length (now image) / 4) 16384 ≤ length (now words) ⌝ }
     ensures { λ r. ⌜ Prepared r (readyToLoad (wholeWords (now (image .entry))) (wordsOf (now (image .entry))) count) (now (image .entry)) (now (words .exit)) count
         (now (params .exit)) (now (places .exit)) (now (ends .exit)) ⌝ }
 {
@@ -85,11 +86,12 @@ pub fn ready_to_load(
 pub fn ready_to_serve(
     image: &[u8],
     count: usize,
-    words: &mut [u32; 16384],
+    words: &mut [u32],
     params: &mut [u32; 32],
     places: &mut [u32; 32],
     ends: &mut [u32],
 ) -> Ready
+    requires { ⌜ min (length (now image) / 4) 16384 ≤ length (now words) ⌝ }
     ensures { λ r. ⌜ Prepared r (readyToServe (wholeWords (now (image .entry))) (wordsOf (now (image .entry))) count) (now (image .entry)) (now (words .exit)) count
         (now (params .exit)) (now (places .exit)) (now (ends .exit)) ⌝ }
 {

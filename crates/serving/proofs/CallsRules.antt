@@ -68,11 +68,11 @@ module _ (image cells words params places ends : List ℕ) (bytes : Bytes cells)
       let (a, b) = q .refusal k p e in
       record { gives = sym (call-refused cells bytes image k p (rw size at a) f arguments budget trace); place = omega arith }
 
-  pub call-serves : (n own : ℕ) → r ≡ Words n own → length words ≡ 16384 → Callable words n params places ends (length cells) own
-  call-serves n own e long =
+  pub call-serves : (n own : ℕ) → r ≡ Words n own → Callable words n params places ends (length cells) own
+  call-serves n own e =
       let (tree, s, d, t, l) = q .accepted n own e in
       record {
-        within = omega arith;
+        within = l;
         few = s .few;
         enough = (let h = s .enough in omega arith);
         serves = rw t (serves-tree (wordsOf image) params places ends tree (s .end) own (s .read) (s .tables) (s .own));

@@ -1,7 +1,7 @@
 // A call: the run's entries go into the lent trace as they arise.
 ghost use mathlib.Core.Path.{_≡_};
 ghost use mathlib.Core.List.{_++_};
-ghost use Prim.Native.Nat.{_*_, _≤_};
+ghost use Prim.Native.Nat.{_*_, _/_, _≤_, min};
 ghost use lib.ListN.{length, take, drop};
 ghost use Rattle.definitions.specs.Bytes.{wordsOf, bytesOf, lent};
 ghost use Rattle.definitions.specs.Requests.{calledOn};
@@ -56,11 +56,12 @@ fn call_with(
     arguments: &[u8],
     budget: u32,
     trace: &mut [u8],
-    words: &mut [u32; 16384],
+    words: &mut [u32],
     params: &mut [u32; 32],
     places: &mut [u32; 32],
-    ends: &mut [u32; 16384],
+    ends: &mut [u32],
 ) -> Answer
+    requires { ⌜ min (length (now image) / 4) 16384 ≤ length (now words) ⌝ }
     ensures { λ r. ⌜ AnsweredCall r (now (cells .exit)) (now (trace .exit))
         (callBytes (now (image .entry)) (now (cells .entry)) f (now (arguments .entry)) budget (now (trace .entry))) ⌝ }
 {
@@ -84,8 +85,39 @@ fn call_with(
     }
 }
 
-// Procedure f on the arguments, in at most `budget` steps.
-pub fn call(
+// A short image: arrays of its size spare the time to fill larger ones.
+fn call_short(
+    image: &[u8],
+    cells: &mut [u8],
+    f: u32,
+    arguments: &[u8],
+    budget: u32,
+    trace: &mut [u8],
+) -> Answer
+    requires { ⌜ length (now image) ≤ 2048 ⌝ }
+    ensures { λ r. ⌜ AnsweredCall r (now (cells .exit)) (now (trace .exit))
+        (callBytes (now (image .entry)) (now (cells .entry)) f (now (arguments .entry)) budget (now (trace .entry))) ⌝ }
+{
+    let mut words = [0u32; 512];
+    let mut params = [0u32; 32];
+    let mut places = [0u32; 32];
+    let mut ends = [0u32; 512];
+    call_with(
+        image,
+        cells,
+        f,
+        arguments,
+        budget,
+        trace,
+        &mut words,
+        &mut params,
+        &mut places,
+        &mut ends,
+    )
+}
+
+// An image of any length.
+fn call_long(
     image: &[u8],
     cells: &mut [u8],
     f: u32,
@@ -112,4 +144,22 @@ pub fn call(
         &mut places,
         &mut ends,
     )
+}
+
+// Procedure f on the arguments, in at most `budget` steps.
+pub fn call(
+    image: &[u8],
+    cells: &mut [u8],
+    f: u32,
+    arguments: &[u8],
+    budget: u32,
+    trace: &mut [u8],
+) -> Answer
+    ensures { λ r. ⌜ AnsweredCall r (now (cells .exit)) (now (trace .exit))
+        (callBytes (now (image .entry)) (now (cells .entry)) f (now (arguments .entry)) budget (now (trace .entry))) ⌝ }
+{
+    if image.len() <= 2048 {
+        return call_short(image, cells, f, arguments, budget, trace);
+    }
+    call_long(image, cells, f, arguments, budget, trace)
 }

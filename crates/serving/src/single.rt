@@ -1,6 +1,6 @@
 // Poke and peek: one cell is written or read.
 ghost use mathlib.Core.Path.{_≡_};
-ghost use Prim.Native.Nat.{_+_, _*_, _≤_, _<_};
+ghost use Prim.Native.Nat.{_+_, _*_, _/_, _≤_, _<_, min};
 ghost use lib.ListN.{length, getD, take};
 ghost use Rattle.definitions.specs.Bytes.{wordsOf};
 ghost use Rattle.definitions.specs.Image.{arraysOf};
@@ -50,10 +50,11 @@ fn poke_with(
     a: u32,
     i: u32,
     v: u32,
-    words: &mut [u32; 16384],
+    words: &mut [u32],
     params: &mut [u32; 32],
     places: &mut [u32; 32],
 ) -> Answer
+    requires { ⌜ min (length (now image) / 4) 16384 ≤ length (now words) ⌝ }
     ensures { λ r. ⌜ Answered r (now (cells .exit)) (pokeBytes (now (image .entry)) (now (cells .entry)) a i v) ⌝ }
 {
     let mut ends = [0u32; 0];
@@ -70,10 +71,11 @@ fn peek_with(
     cells: &[u8],
     a: u32,
     i: u32,
-    words: &mut [u32; 16384],
+    words: &mut [u32],
     params: &mut [u32; 32],
     places: &mut [u32; 32],
 ) -> Answer
+    requires { ⌜ min (length (now image) / 4) 16384 ≤ length (now words) ⌝ }
     ensures { λ r. ⌜ Answered r (now (cells .entry)) (peekBytes (now (image .entry)) (now (cells .entry)) a i) ⌝ }
 {
     let mut ends = [0u32; 0];
@@ -85,8 +87,19 @@ fn peek_with(
     }
 }
 
-// Word v goes to cell i of array a.
-pub fn poke(image: &[u8], cells: &mut [u8], a: u32, i: u32, v: u32) -> Answer
+// A short image: arrays of its size spare the time to fill larger ones.
+fn poke_short(image: &[u8], cells: &mut [u8], a: u32, i: u32, v: u32) -> Answer
+    requires { ⌜ length (now image) ≤ 2048 ⌝ }
+    ensures { λ r. ⌜ Answered r (now (cells .exit)) (pokeBytes (now (image .entry)) (now (cells .entry)) a i v) ⌝ }
+{
+    let mut words = [0u32; 512];
+    let mut params = [0u32; 32];
+    let mut places = [0u32; 32];
+    poke_with(image, cells, a, i, v, &mut words, &mut params, &mut places)
+}
+
+// An image of any length.
+fn poke_long(image: &[u8], cells: &mut [u8], a: u32, i: u32, v: u32) -> Answer
     ensures { λ r. ⌜ Answered r (now (cells .exit)) (pokeBytes (now (image .entry)) (now (cells .entry)) a i v) ⌝ }
 {
     let mut words = [0u32; 16384];
@@ -95,12 +108,43 @@ pub fn poke(image: &[u8], cells: &mut [u8], a: u32, i: u32, v: u32) -> Answer
     poke_with(image, cells, a, i, v, &mut words, &mut params, &mut places)
 }
 
-// The word in cell i of array a.
-pub fn peek(image: &[u8], cells: &[u8], a: u32, i: u32) -> Answer
+// Word v goes to cell i of array a.
+pub fn poke(image: &[u8], cells: &mut [u8], a: u32, i: u32, v: u32) -> Answer
+    ensures { λ r. ⌜ Answered r (now (cells .exit)) (pokeBytes (now (image .entry)) (now (cells .entry)) a i v) ⌝ }
+{
+    if image.len() <= 2048 {
+        return poke_short(image, cells, a, i, v);
+    }
+    poke_long(image, cells, a, i, v)
+}
+
+// A short image: arrays of its size spare the time to fill larger ones.
+fn peek_short(image: &[u8], cells: &[u8], a: u32, i: u32) -> Answer
+    requires { ⌜ length (now image) ≤ 2048 ⌝ }
+    ensures { λ r. ⌜ Answered r (now (cells .entry)) (peekBytes (now (image .entry)) (now (cells .entry)) a i) ⌝ }
+{
+    let mut words = [0u32; 512];
+    let mut params = [0u32; 32];
+    let mut places = [0u32; 32];
+    peek_with(image, cells, a, i, &mut words, &mut params, &mut places)
+}
+
+// An image of any length.
+fn peek_long(image: &[u8], cells: &[u8], a: u32, i: u32) -> Answer
     ensures { λ r. ⌜ Answered r (now (cells .entry)) (peekBytes (now (image .entry)) (now (cells .entry)) a i) ⌝ }
 {
     let mut words = [0u32; 16384];
     let mut params = [0u32; 32];
     let mut places = [0u32; 32];
     peek_with(image, cells, a, i, &mut words, &mut params, &mut places)
+}
+
+// The word in cell i of array a.
+pub fn peek(image: &[u8], cells: &[u8], a: u32, i: u32) -> Answer
+    ensures { λ r. ⌜ Answered r (now (cells .entry)) (peekBytes (now (image .entry)) (now (cells .entry)) a i) ⌝ }
+{
+    if image.len() <= 2048 {
+        return peek_short(image, cells, a, i);
+    }
+    peek_long(image, cells, a, i)
 }

@@ -29,22 +29,41 @@ fn check_front(words: &[u32], n: usize, whole: bool) -> Checked
     check_words(&words[..n], whole)
 }
 
-// The same for an array: a part is taken of a slice only.
-fn check_read(words: &[u32; 16384], n: usize, whole: bool) -> Checked
-    requires { ⌜ n ≤ 16384 ⌝ }
-    ensures { λ r. ⌜ r ≡ checked whole (take n (now (words .entry))) ⌝ }
+// The image's words go into a lent slice that has room for them.
+fn check_into(image: &[u8], words: &mut [u32]) -> Checked
+    requires { ⌜ min (length (now image) / 4) 16384 ≤ length (now words) ⌝ }
+    ensures { λ r. ⌜ r ≡ checkBytes (now (image .entry)) ⌝ }
 {
+    let n = image_bytes::read_image(image, words);
+    let whole = image_bytes::admissible(image);
     check_front(words, n, whole)
+}
+
+// A short image: an array of its size spares the time to fill a larger one.
+fn check_short(image: &[u8]) -> Checked
+    requires { ⌜ length (now image) ≤ 2048 ⌝ }
+    ensures { λ r. ⌜ r ≡ checkBytes (now (image .entry)) ⌝ }
+{
+    let mut words = [0u32; 512];
+    check_into(image, &mut words)
+}
+
+// An image of any length.
+fn check_long(image: &[u8]) -> Checked
+    ensures { λ r. ⌜ r ≡ checkBytes (now (image .entry)) ⌝ }
+{
+    let mut words = [0u32; 16384];
+    check_into(image, &mut words)
 }
 
 // Checks an image that is lent as bytes.
 pub fn check_bytes(image: &[u8]) -> Checked
     ensures { λ r. ⌜ r ≡ checkBytes (now (image .entry)) ⌝ }
 {
-    let mut words = [0u32; 16384];
-    let n = image_bytes::read_image(image, &mut words);
-    let whole = image_bytes::admissible(image);
-    check_read(&words, n, whole)
+    if image.len() <= 2048 {
+        return check_short(image);
+    }
+    check_long(image)
 }
 
 // Compiles the first n words into all words of a slice.
