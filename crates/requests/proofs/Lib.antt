@@ -1,3 +1,2 @@
 pub mod CellRules
-pub mod MachineRules
 pub mod ArgumentRules

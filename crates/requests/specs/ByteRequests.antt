@@ -13,7 +13,7 @@ use Rattle.definitions.specs.Host.{wholeWords, onCells, loadBytes, clearBytes, 
 use Rattle.definitions.specs.declared.Answer.{Answer}
 use Rattle.definitions.specs.declared.Answer.the-variants.{Refused}
 use Rattle.words.proofs.Laws.{Bytes, length-wordsOf, lent-wordsOf}
-use Rattle.requests.specs.Machines.{clearOn, pokeOn, peekOn}
+use Rattle.requests.specs.OwnCells.{clearOn, pokeOn, peekOn}
 use Rattle.requests.specs.LentCells.{lent-front}
 use Rattle.requests.specs.SpareCells.{behind, behindCall, clear-spare, poke-spare, peek-spare, poke-long, peek-long, Spares, call-spare}
 

@@ -1,5 +1,5 @@
 pub mod Cells
-pub mod Machines
+pub mod OwnCells
 pub mod LentCells
 pub mod SpareRuns
 pub mod SpareCells

@@ -16,7 +16,7 @@ use Rattle.definitions.specs.Requests.{Served, Called, carriedOut, zeroed, argu
 use Rattle.definitions.specs.declared.Answer.{Answer}
 use Rattle.definitions.specs.declared.Answer.the-variants.{Refused}
 use Rattle.requests.specs.Cells.{hasCellIn}
-use Rattle.requests.specs.Machines.{clearOn, pokeOn, peekOn}
+use Rattle.requests.specs.OwnCells.{clearOn, pokeOn, peekOn}
 use Rattle.requests.specs.SpareRuns.{cell-among, Both, both-on, both-halt, WideGiven, wide-gave, procedure-spare}
 
 -- the answer, with the other cells behind those that are left

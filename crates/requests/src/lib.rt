@@ -2,4 +2,3 @@
 
 pub mod cells; // where the cells of an array begin
 pub mod arguments; // the values that a call begins with, and its result
-pub mod machine; // the machine by value: its cells go in and come back

@@ -17,17 +17,17 @@ use Rattle.places.specs.Named.{answerPlace}
 use Rattle.places.specs.Answers.{called-within}
 use Rattle.words.proofs.Laws.{Bytes, length-wordsOf}
 use Rattle.evaluator.specs.Program.{programOf}
-use Rattle.requests.specs.declared.machine.Machine.{Machine}
-use Rattle.requests.specs.declared.machine.Turn.{Turn}
-use Rattle.requests.specs.Machines.{held}
+use Rattle.machine.specs.declared.Machine.{Machine}
+use Rattle.machine.specs.declared.Turn.{Turn}
+use Rattle.machine.specs.Turns.{held}
 use Rattle.requests.specs.ByteRequests.{call-refused, call-ready}
 use Rattle.requests.specs.ReadImages.{image-read}
 use Rattle.ready.specs.declared.Ready.{Ready}
 use Rattle.ready.specs.declared.Ready.the-variants.{Words, Unready}
 use Rattle.ready.specs.Prepared.{Prepared}
 use Rattle.ready.specs.Prepared.{Serves as Accepted}
-use Rattle.calling.specs.Serving.{Serves, TurnedCall}
-use Rattle.calling.specs.Lookups.{serves-tree, program-is}
+use Rattle.machine.specs.Serving.{Serves, TurnedCall}
+use Rattle.machine.specs.Lookups.{serves-tree, program-is}
 use Rattle.serving.specs.Served.{AnsweredCall, Callable, Called}
 
 -- the part of the words that starts at 0

@@ -16,10 +16,11 @@ use Rattle.definitions.specs.declared.Answer.{Answer}
 use Rattle.definitions.specs.declared.Answer.the-variants.{Done, Stopped, Refused}
 use Rattle.places.specs.Named.{answerPlace}
 use Rattle.words.proofs.Laws.{Bytes, length-wordsOf, lent-wordsOf}
-use Rattle.requests.specs.declared.machine.Machine.{Machine}
-use Rattle.requests.specs.declared.machine.Turn.{Turn}
+use Rattle.machine.specs.declared.Machine.{Machine}
+use Rattle.machine.specs.declared.Turn.{Turn}
 use Rattle.requests.specs.Cells.{hasCellIn}
-use Rattle.requests.specs.Machines.{held, Fits, Turned, clearOn, pokeOn, peekOn}
+use Rattle.requests.specs.OwnCells.{Fits, clearOn, pokeOn, peekOn}
+use Rattle.machine.specs.Turns.{held, Turned}
 use Rattle.requests.specs.LentCells.{lent-front}
 use Rattle.requests.specs.ReadImages.{image-read}
 use Rattle.requests.specs.ByteRequests.{afterwards, load-refused, clear-refused, poke-refused, peek-refused, load-ready, clear-ready, poke-ready, peek-ready}

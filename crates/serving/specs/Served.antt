@@ -7,9 +7,9 @@ use Rattle.definitions.specs.Bytes.{bytesOf, lent}
 use Rattle.definitions.specs.declared.Answer.{Answer}
 use Rattle.definitions.specs.Image.{arraysOf}
 use Rattle.places.specs.Named.{answerPlace}
-use Rattle.requests.specs.Machines.{Fits}
+use Rattle.requests.specs.OwnCells.{Fits}
 use Rattle.ready.specs.Prepared.{arraysIn}
-use Rattle.calling.specs.Serving.{Serves}
+use Rattle.machine.specs.Serving.{Serves}
 
 -- the answer and the cells afterwards are the definition's; the place answered fits a word
 pub record Answered (r : Answer) (after : List ℕ) (x : Answer × List ℕ) : Type 0 where

@@ -9,8 +9,8 @@ ghost use Rattle.definitions.specs.Host.{callBytes};
 ghost use Rattle.evaluator.specs.Program.{programOf};
 ghost use Rattle.serving.specs.Served.{AnsweredCall, Called, Callable};
 use definitions::Answer;
+use machine::Machine;
 use ready::Ready;
-use requests::machine::Machine;
 
 // On the first n words, which are those of an image that is ready, with `count` cells.
 fn call_cells(
@@ -30,9 +30,8 @@ fn call_cells(
     ensures { λ r. ⌜ Called r (now (cells .entry)) (now (cells .exit)) (now (trace .entry)) (now (trace .exit)) count
         (calledOn (programOf (take n (now (words .entry)))) (take count (wordsOf (now (cells .entry)))) f (wordsOf (now (arguments .entry))) budget (length (wordsOf (now (trace .entry))))) ⌝ }
 {
-    let machine = Machine::lent(cells, count);
-    let turn = calling::call(
-        machine,
+    let before = Machine::lent(cells, count);
+    let turn = before.call(
         &words[0..n],
         params,
         places,

@@ -6,13 +6,13 @@ ghost use Rattle.definitions.specs.Bytes.{wordsOf};
 ghost use Rattle.definitions.specs.Image.{arraysOf};
 ghost use Rattle.definitions.specs.Host.{pokeBytes, peekBytes};
 ghost use Rattle.places.specs.Named.{answerPlace};
-ghost use Rattle.requests.specs.Machines.{Fits, pokeOn, peekOn};
+ghost use Rattle.requests.specs.OwnCells.{Fits, pokeOn, peekOn};
 ghost use Rattle.requests.specs.ByteRequests.{afterwards};
 ghost use Rattle.ready.specs.Prepared.{arraysIn};
 ghost use Rattle.serving.specs.Served.{Answered, Lends};
 use definitions::Answer;
+use machine::Machine;
 use ready::Ready;
-use requests::machine::Machine;
 
 // The number of array words, by the header.
 fn array_count(header: u32) -> usize

@@ -4,14 +4,25 @@ ghost use Prim.Native.Nat.{_*_, _≤_, _<_};
 ghost use lib.ListN.{length};
 ghost use Rattle.definitions.specs.Host.{loadBytes, clearBytes};
 ghost use Rattle.places.specs.Named.{answerPlace};
-ghost use Rattle.requests.specs.Machines.{clearOn};
+ghost use Rattle.requests.specs.OwnCells.{clearOn};
 ghost use Rattle.requests.specs.ByteRequests.{afterwards};
 ghost use Rattle.serving.specs.Served.{Answered};
 use definitions::Answer;
+use machine::Machine;
 use ready::Ready;
-use requests::machine::Machine;
 
 // An image that is ready has `count` cells.
+fn load_cells(cells: &mut [u8], count: usize) -> Answer
+    requires { ⌜ (count ≤ 1024) × (4 * count ≤ length (now cells)) ⌝ }
+    ensures { λ r. ⌜ (r, now (cells .exit)) ≡ afterwards (now (cells .entry)) count (clearOn count) ⌝ }
+{
+    let turn = Machine::lent(cells, count).load();
+    let machine = turn.machine;
+    let answer = turn.answer;
+    machine.give_back(cells);
+    answer
+}
+
 fn clear_cells(cells: &mut [u8], count: usize) -> Answer
     requires { ⌜ (count ≤ 1024) × (4 * count ≤ length (now cells)) ⌝ }
     ensures { λ r. ⌜ (r, now (cells .exit)) ≡ afterwards (now (cells .entry)) count (clearOn count) ⌝ }
@@ -42,7 +53,7 @@ pub fn load(image: &[u8], cells: &mut [u8]) -> Answer
     );
     match r {
         Ready::Unready(number, place) => Answer::Refused(number, place),
-        Ready::Words(_, own) => clear_cells(cells, own),
+        Ready::Words(_, own) => load_cells(cells, own),
     }
 }
 

@@ -5,31 +5,31 @@ use Rattle.serving.proofs.calls.call_cells.Statement.{statement}
 use Rattle.serving.proofs.calls.call_cells.Tie as tie
 use Rattle.serving.proofs.calls.call_cells.Reads as reads
 use Rattle.serving.proofs.calls.call_cells.Lts as lts
-use Rattle.calling.proofs.call.Reads as call-reads
-use Rattle.requests.proofs.machine.Machine.give_back.Reads as give-back-reads
-use Rattle.requests.proofs.machine.Machine.lent.Reads as lent-reads
+use Rattle.machine.proofs.Machine.call.Reads as call-reads
+use Rattle.machine.proofs.Machine.give_back.Reads as give-back-reads
+use Rattle.machine.proofs.Machine.lent.Reads as lent-reads
 
--- src/calls.rt:21:9
+-- src/calls.rt:33:9
 lent-requires : tie.Need-lent-requires
 lent-requires c κs = search needs
 
--- src/calls.rt:22:39
+-- src/calls.rt:35:9
 sub-call : tie.Need-sub-call
 sub-call c = search needs
 
--- src/calls.rt:22:39
+-- src/calls.rt:35:9
 part-call-start : tie.Need-part-call-start
 part-call-start c = search needs
 
--- src/calls.rt:22:39
+-- src/calls.rt:35:9
 part-call-end : tie.Need-part-call-end
 part-call-end c = search needs
 
--- src/calls.rt:22:9
+-- src/calls.rt:34:9
 call-requires : tie.Need-call-requires
 call-requires c κs = call-asks (c .before .before .before .before .before .before .before .before .before .args .words .now) (c .before .before .before .before .before .before .before .before .before .args .n) _ _ _ _ _ _ (c .before .before .before .before .before .before .before .before .before .pre) (c .before .before .lent .ensures .1)
 
--- src/calls.rt:25:5
+-- src/calls.rt:46:5
 give-back-requires : tie.Need-give-back-requires
 give-back-requires c κs = search needs
 

@@ -5,8 +5,8 @@ use Rattle.serving.proofs.single.peek_cell.Statement.{statement}
 use Rattle.serving.proofs.single.peek_cell.Tie as tie
 use Rattle.serving.proofs.single.peek_cell.Reads as reads
 use Rattle.serving.proofs.single.peek_cell.Lts as lts
-use Rattle.requests.proofs.machine.Machine.lent.Reads as lent-reads
-use Rattle.requests.proofs.machine.Machine.peek.Reads as peek-reads
+use Rattle.machine.proofs.Machine.lent.Reads as lent-reads
+use Rattle.machine.proofs.Machine.peek.Reads as peek-reads
 use Rattle.serving.proofs.single.array_count.Reads as array-count-reads
 
 -- src/single.rt:41:31

@@ -5,9 +5,9 @@ use Rattle.serving.proofs.single.poke_cell.Statement.{statement}
 use Rattle.serving.proofs.single.poke_cell.Tie as tie
 use Rattle.serving.proofs.single.poke_cell.Reads as reads
 use Rattle.serving.proofs.single.poke_cell.Lts as lts
-use Rattle.requests.proofs.machine.Machine.give_back.Reads as give-back-reads
-use Rattle.requests.proofs.machine.Machine.lent.Reads as lent-reads
-use Rattle.requests.proofs.machine.Machine.poke.Reads as poke-reads
+use Rattle.machine.proofs.Machine.give_back.Reads as give-back-reads
+use Rattle.machine.proofs.Machine.lent.Reads as lent-reads
+use Rattle.machine.proofs.Machine.poke.Reads as poke-reads
 use Rattle.serving.proofs.single.array_count.Reads as array-count-reads
 
 -- src/single.rt:29:31

@@ -1,3 +1,0 @@
-pub mod TurnRules
-pub mod TableRules
-pub mod CallRules

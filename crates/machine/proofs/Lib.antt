@@ -1,0 +1,4 @@
+pub mod TurnRules
+pub mod TableRules
+pub mod CallRules
+pub mod MachineRules

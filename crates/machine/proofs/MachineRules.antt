@@ -1,0 +1,61 @@
+-- Each way in which a request on an accepted image ends. Assumes nothing.
+use mathlib.Core.Path.{_≡_, refl, sym, ap, _∙_}
+use mathlib.Core.Bool.{true, false}
+use mathlib.Core.List.{List, _++_}
+use Prim.Native.Nat.{ℕ, _+_, _-_, _≤_, _<_}
+use native.Mathlib.Omega.{arith}
+use lib.ListN.{length, getD, set, take, replicate, length-replicate, replicate-append-replicate}
+use lib.Seq.{take-at, take-set-lt, getD-take}
+use Rattle.definitions.specs.Image.{cellCount, baseOf}
+use Rattle.definitions.specs.Requests.{Served, carriedOut}
+use Rattle.definitions.specs.declared.Answer.{Answer}
+use Rattle.definitions.specs.declared.Answer.the-variants.{Done, Refused}
+use Rattle.requests.specs.declared.cells.Slot.{Slot}
+use Rattle.requests.specs.declared.cells.Slot.the-variants.{At, Nothing}
+use Rattle.machine.specs.declared.Machine.{Machine}
+use Rattle.machine.specs.declared.Turn.{Turn}
+use Rattle.requests.specs.Cells.{hasCellIn, slotOf}
+use Rattle.requests.specs.OwnCells.{Fits, clearOn, pokeOn, peekOn}
+use Rattle.machine.specs.Turns.{held, Turned}
+use Rattle.requests.proofs.CellRules.{slot-at, slot-nothing, cell-within}
+
+take-zeros : (n m : ℕ) → n ≤ m → _≡_ {A = List ℕ} (take n (replicate m 0)) (replicate n 0)
+take-zeros n m h =
+    let e : n + (m - n) ≡ m = omega arith in
+    let s : _≡_ {A = List ℕ} (replicate n 0 ++ replicate (m - n) 0) (replicate m 0) = rw e at (replicate-append-replicate {A = ℕ} n (m - n) 0) in
+    rw (← s) (take-at (replicate n 0) (replicate (m - n) 0) n (length-replicate {A = ℕ} n 0))
+
+pub cleared : (m : Machine) → m .count ≤ 1024
+    → Turned m (record { machine = record { cells = replicate 1024 0; count = m .count }; answer = Done 0 0 0 }) (clearOn (m .count))
+unfolding clearOn
+cleared m h = record { gives = rw (take-zeros (m .count) 1024 h); same = refl }
+
+module _ (m : Machine) (arrays : List ℕ) (a i : ℕ) (fits : Fits arrays (m .count)) (s : Slot) (e : s ≡ slotOf arrays a i) where
+  pub no-poke : (v : ℕ) → s ≡ Nothing → Turned m (record { machine = m; answer = Refused 17 0 }) (pokeOn arrays (held m) a i v)
+  unfolding pokeOn
+  no-poke v n = record { gives = rw (slot-nothing arrays a i s e n); same = refl }
+
+  pub no-peek : s ≡ Nothing → Turned m (record { machine = m; answer = Refused 17 0 }) (peekOn arrays (held m) a i)
+  unfolding peekOn
+  no-peek n = record { gives = rw (slot-nothing arrays a i s e n); same = refl }
+
+  module _ (n : ℕ) (f : s ≡ At n) where
+    pub slot-below : n < m .count
+    slot-below = let (t, q) = slot-at arrays a i s n e f in omega (arith, cell-within arrays a i t, fits .all)
+
+    pub slot-small : n < 1024
+    slot-small = omega (arith, slot-below, fits .all, fits .most)
+
+    pub poked : (v : ℕ)
+        → Turned m (record { machine = record { cells = set (m .cells) n v; count = m .count }; answer = Done 0 0 0 }) (pokeOn arrays (held m) a i v)
+    unfolding pokeOn
+    poked v =
+        let (t, q) = slot-at arrays a i s n e f in
+        record { gives = rw (t, take-set-lt (m .count) (m .cells) n v slot-below, q); same = refl }
+
+    pub peeked : (v : ℕ) → v ≡ getD (m .cells) n 0 → Turned m (record { machine = m; answer = Done v 0 0 }) (peekOn arrays (held m) a i)
+    unfolding peekOn
+    peeked v r =
+        let (t, q) = slot-at arrays a i s n e f in
+        let w : v ≡ getD (held m) (baseOf arrays a + i) 0 = r ∙ sym (getD-take (m .count) (m .cells) n 0 slot-below) ∙ ap (λ (k : ℕ). getD (held m) k 0) q in
+        record { gives = rw (t, w); same = refl }

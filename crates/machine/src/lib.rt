@@ -1,0 +1,155 @@
+// The machine by value: each request takes it and hands it back beside the answer.
+ghost use mathlib.Core.Path.{_≡_};
+ghost use mathlib.Core.List.{_++_};
+ghost use Prim.Native.Nat.{_*_, _<_, _≤_};
+ghost use lib.ListN.{length, take, drop};
+ghost use Rattle.definitions.specs.Bytes.{wordsOf, bytesOf};
+ghost use Rattle.definitions.specs.Requests.{calledOn};
+ghost use Rattle.evaluator.specs.Program.{programOf};
+ghost use Rattle.requests.specs.OwnCells.{Fits, clearOn, pokeOn, peekOn};
+ghost use Rattle.machine.specs.Turns.{held, Turned};
+ghost use Rattle.machine.specs.Serving.{Serves, TurnedCall};
+use definitions::Answer;
+use requests::cells::Slot;
+use requests::cells::find_cell;
+
+pub mod tables; // what the runner looks up, from what reading the image left
+mod signature; // what a call finds of the procedure that it names
+mod runs; // the run of a call whose procedure and number of arguments were tested
+
+// The first `count` words are the cells of the image; those behind them mean nothing.
+pub struct Machine {
+    pub cells: [u32; 1024],
+    pub count: usize,
+}
+
+// The machine after a request, beside the request's answer.
+pub struct Turn {
+    pub machine: Machine,
+    pub answer: Answer,
+}
+
+impl Machine {
+    // The machine whose cells are the first words of the lent bytes.
+    pub fn lent(cells: &[u8], count: usize) -> Self
+        requires { ⌜ (count ≤ 1024) × (4 * count ≤ length (now cells)) ⌝ }
+        ensures { λ r. ⌜ (held r ≡ take count (wordsOf (now (cells .entry)))) × (r .count ≡ count) ⌝ }
+    {
+        let mut first = [0u32; 1024];
+        words::read_words(cells, &mut first, count);
+        Machine {
+            cells: first,
+            count,
+        }
+    }
+
+    // The machine's cells go back into the lent bytes; those behind them stay.
+    pub fn give_back(self, cells: &mut [u8])
+        requires { ⌜ (self .count ≤ 1024) × (4 * self .count ≤ length (now cells)) ⌝ }
+        ensures { λ _. ⌜ now (cells .exit) ≡ bytesOf (held self) ++ drop (4 * self .count) (now (cells .entry)) ⌝ }
+    {
+        let first = self.cells;
+        let count = self.count;
+        words::write_words(&first, cells, count);
+    }
+
+    // Load: every cell is 0.
+    pub fn load(self) -> Turn
+        requires { ⌜ self .count ≤ 1024 ⌝ }
+        ensures { λ r. ⌜ Turned self r (clearOn (self .count)) ⌝ }
+    {
+        self.clear()
+    }
+
+    // Clear: every cell is 0.
+    pub fn clear(self) -> Turn
+        requires { ⌜ self .count ≤ 1024 ⌝ }
+        ensures { λ r. ⌜ Turned self r (clearOn (self .count)) ⌝ }
+    {
+        let count = self.count;
+        Turn {
+            machine: Machine {
+                cells: [0u32; 1024],
+                count,
+            },
+            answer: Answer::Done(0, 0, 0),
+        }
+    }
+
+    pub fn poke(self, arrays: &[u32], a: u32, i: u32, v: u32) -> Turn
+        requires { ⌜ Fits (now arrays) (self .count) ⌝ }
+        ensures { λ r. ⌜ Turned self r (pokeOn (now (arrays .entry)) (held self) a i v) ⌝ }
+    {
+        let s = find_cell(arrays, a, i);
+        let Slot::At(at) = s else {
+            return Turn {
+                machine: self,
+                answer: Answer::Refused(17, 0),
+            };
+        };
+        let mut next = self;
+        next.cells[at] = v;
+        Turn {
+            machine: next,
+            answer: Answer::Done(0, 0, 0),
+        }
+    }
+
+    pub fn peek(self, arrays: &[u32], a: u32, i: u32) -> Turn
+        requires { ⌜ Fits (now arrays) (self .count) ⌝ }
+        ensures { λ r. ⌜ Turned self r (peekOn (now (arrays .entry)) (held self) a i) ⌝ }
+    {
+        let s = find_cell(arrays, a, i);
+        let Slot::At(at) = s else {
+            return Turn {
+                machine: self,
+                answer: Answer::Refused(17, 0),
+            };
+        };
+        let v = self.cells[at];
+        Turn {
+            machine: self,
+            answer: Answer::Done(v, 0, 0),
+        }
+    }
+
+    // The call: 17 where there is no such procedure, then 18 where the number of arguments is not its number of parameters.
+    pub fn call(
+        self,
+        image: &[u32],
+        params: &[u32; 32],
+        places: &[u32; 32],
+        ends: &[u32],
+        f: u32,
+        arguments: &[u8],
+        budget: u32,
+        trace: &mut [u8],
+    ) -> Turn
+        requires { ⌜ Serves (now image) (now params) (now places) (now ends) (self .count) ⌝ }
+        ensures { λ r. ⌜ TurnedCall self r (now (trace .entry)) (now (trace .exit)) (calledOn (programOf (now (image .entry))) (held self) f (wordsOf (now (arguments .entry))) budget (length (wordsOf (now (trace .entry))))) ⌝ }
+    {
+        if tables::procedure_count(image) <= f {
+            return Turn {
+                machine: self,
+                answer: Answer::Refused(17, 0),
+            };
+        }
+        if arguments.len() / 4 != signature::entry(params, f) {
+            return Turn {
+                machine: self,
+                answer: Answer::Refused(18, 0),
+            };
+        }
+        runs::run(
+            self,
+            image,
+            params,
+            places,
+            ends,
+            f,
+            arguments,
+            budget,
+            trace,
+        )
+    }
+}
