@@ -5,9 +5,7 @@ use Rattle.image_bytes.proofs.admissible.Tie as tie
 use Rattle.image_bytes.proofs.admissible.Reads as reads
 use Rattle.image_bytes.proofs.admissible.Lts as lts
 
--- src/lib.rt:24:1
-returns : tie.Need-returns
-returns c = admitted (c .args .image .now)
-
 pub admissible-spec : {M : Type 1} → statement M
-admissible-spec = tie.close (tie.spec returns)
+admissible-spec = tie.close (tie.spec
+    (λ c. admitted (c .args .image .now))  -- returns
+    )

@@ -9,33 +9,13 @@ use Rattle.machine.proofs.runs.run.Reads as run-reads
 use Rattle.machine.proofs.signature.entry.Reads as entry-reads
 use Rattle.machine.proofs.tables.procedure_count.Reads as procedure-count-reads
 
--- src/lib.rt:131:12
-procedure-count-requires : tie.Need-procedure-count-requires
-procedure-count-requires c κs = search needs
-
--- src/lib.rt:132:13
-returns : tie.Need-returns
-returns c = call-none _ _ _ _ _ (c .before .before .before .before .before .before .pre) _ _ _ (c .before .procedure-count .ensures) _ _ (c .if1 .taken)
-
--- src/lib.rt:137:35
-entry-requires : tie.Need-entry-requires
-entry-requires c κs = search needs
-
--- src/lib.rt:138:13
-returns-2 : tie.Need-returns-2
-returns-2 c = call-count _ _ _ _ _ (c .before .before .before .before .before .before .before .before .pre) _ _ _ (c .before .before .before .procedure-count .ensures) _ _ (c .before .before .if1 .left) _ (c .before .entry .ensures .0) (c .if2 .taken)
-
--- src/lib.rt:143:9
-run-requires : tie.Need-run-requires
-run-requires c κs = let q = call-asks (c .before .before .before .before .before .before .before .before .before .args .self) _ _ _ _ (c .before .before .before .before .before .before .before .before .before .pre) (c .before .before .before .before .before .before .before .before .before .args .f) (c .before .before .before .before .before .before .before .before .before .args .arguments .now) _ (c .before .before .before .before .procedure-count .ensures) 0 [] (c .before .before .before .if1 .left) _ (c .before .before .entry .ensures .0) (c .before .if2 .left) in (c .before .before .before .before .before .before .before .before .before .pre, q .0, q .1)
-
--- src/lib.rt:117:5
-same-length : tie.Need-same-length
-same-length c = search needs
-
--- src/lib.rt:117:5
-returns-3 : tie.Need-returns-3
-returns-3 c = call-ran _ _ _ _ _ (c .before .before .before .before .before .before .before .before .before .before .before .before .pre) _ _ _ (c .before .before .before .before .before .before .before .procedure-count .ensures) _ _ (c .before .before .before .before .before .before .if1 .left) _ (c .before .before .before .before .before .entry .ensures .0) (c .before .before .before .before .if2 .left) _ _ (c .before .before .run .ensures)
-
 pub call-spec : {M : Type 1} → statement M
-call-spec = tie.close (tie.spec procedure-count-requires returns entry-requires returns-2 run-requires same-length returns-3)
+call-spec = tie.close (tie.spec
+    (λ c κs. search needs)  -- procedure-count-requires
+    (λ c. call-none _ _ _ _ _ (c .before .before .before .before .before .before .pre) _ _ _ (c .before .procedure-count .ensures) _ _ (c .if1 .taken))  -- returns
+    (λ c κs. search needs)  -- entry-requires
+    (λ c. call-count _ _ _ _ _ (c .before .before .before .before .before .before .before .before .pre) _ _ _ (c .before .before .before .procedure-count .ensures) _ _ (c .before .before .if1 .left) _ (c .before .entry .ensures .0) (c .if2 .taken))  -- returns-2
+    (λ c κs. let q = call-asks (c .before .before .before .before .before .before .before .before .before .args .self) _ _ _ _ (c .before .before .before .before .before .before .before .before .before .pre) (c .before .before .before .before .before .before .before .before .before .args .f) (c .before .before .before .before .before .before .before .before .before .args .arguments .now) _ (c .before .before .before .before .procedure-count .ensures) 0 [] (c .before .before .before .if1 .left) _ (c .before .before .entry .ensures .0) (c .before .if2 .left) in (c .before .before .before .before .before .before .before .before .before .pre, q .0, q .1))  -- run-requires
+    (λ c. search needs)  -- same-length
+    (λ c. call-ran _ _ _ _ _ (c .before .before .before .before .before .before .before .before .before .before .before .before .pre) _ _ _ (c .before .before .before .before .before .before .before .procedure-count .ensures) _ _ (c .before .before .before .before .before .before .if1 .left) _ (c .before .before .before .before .before .entry .ensures .0) (c .before .before .before .before .if2 .left) _ _ (c .before .before .run .ensures))  -- returns-3
+    )

@@ -5,9 +5,7 @@ use Rattle.machine.proofs.Machine.clear.Tie as tie
 use Rattle.machine.proofs.Machine.clear.Reads as reads
 use Rattle.machine.proofs.Machine.clear.Lts as lts
 
--- src/lib.rt:65:5
-returns : tie.Need-returns
-returns c = cleared _ (c .pre)
-
 pub clear-spec : {M : Type 1} → statement M
-clear-spec = tie.close (tie.spec returns)
+clear-spec = tie.close (tie.spec
+    (λ c. cleared _ (c .pre))  -- returns
+    )

@@ -8,21 +8,10 @@ use Rattle.machine.proofs.signature.entry.Lts as lts
 use Rattle.lookup.proofs.arrays.word_at.Reads as word-at-reads
 use Rattle.machine.proofs.signature.wide.Reads as wide-reads
 
--- src/signature.rt:23:41
-wide-requires : tie.Need-wide-requires
-wide-requires c κs = search needs
-
--- src/signature.rt:23:10
-word-at-requires : tie.Need-word-at-requires
-word-at-requires c κs = search needs
-
--- src/signature.rt:23:5
-wide-requires-2 : tie.Need-wide-requires-2
-wide-requires-2 c κs = search needs
-
--- src/signature.rt:20:1
-returns : tie.Need-returns
-returns c = (entry-is (c .before .before .before .before .args .table .now) _ _ _ _ (c .before .before .wide .ensures .0) (c .before .word-at .ensures) (c .wide2 .ensures .0), omega (arith, c .wide2 .ensures .1))
-
 pub entry-spec : {M : Type 1} → statement M
-entry-spec = tie.close (tie.spec wide-requires word-at-requires wide-requires-2 returns)
+entry-spec = tie.close (tie.spec
+    (λ c κs. search needs)  -- wide-requires
+    (λ c κs. search needs)  -- word-at-requires
+    (λ c κs. search needs)  -- wide-requires-2
+    (λ c. (entry-is (c .before .before .before .before .args .table .now) _ _ _ _ (c .before .before .wide .ensures .0) (c .before .word-at .ensures) (c .wide2 .ensures .0), omega (arith, c .wide2 .ensures .1)))  -- returns
+    )

@@ -6,13 +6,8 @@ use Rattle.machine.proofs.tables.procedure_count.Reads as reads
 use Rattle.machine.proofs.tables.procedure_count.Lts as lts
 use Rattle.lookup.proofs.arrays.word_at.Reads as word-at-reads
 
--- src/tables.rt:16:5
-word-at-requires : tie.Need-word-at-requires
-word-at-requires c κs = search needs
-
--- src/tables.rt:12:1
-returns : tie.Need-returns
-returns c = count-is _ (c .before .before .pre) _ (c .word-at .ensures)
-
 pub procedure-count-spec : {M : Type 1} → statement M
-procedure-count-spec = tie.close (tie.spec word-at-requires returns)
+procedure-count-spec = tie.close (tie.spec
+    (λ c κs. search needs)  -- word-at-requires
+    (λ c. count-is _ (c .before .before .pre) _ (c .word-at .ensures))  -- returns
+    )

@@ -10,25 +10,11 @@ use Rattle.machine.proofs.Machine.give_back.Reads as give-back-reads
 use Rattle.machine.proofs.Machine.lent.Reads as lent-reads
 use Rattle.machine.proofs.Machine.load.Reads as load-reads
 
--- src/whole.rt:19:16
-lent-requires : tie.Need-lent-requires
-lent-requires c κs = search needs
-
--- src/whole.rt:19:9
-load-requires : tie.Need-load-requires
-load-requires c κs = search needs
-
--- src/whole.rt:22:5
-give-back-requires : tie.Need-give-back-requires
-give-back-requires c κs = search needs
-
--- src/whole.rt:15:1
-same-length : tie.Need-same-length
-same-length c = search needs
-
--- src/whole.rt:15:1
-returns : tie.Need-returns
-returns c = cleared-back _ _ _ _ _ (c .before .before .before .before .before .load .ensures) (c .before .before .before .before .before .before .lent .ensures .1) (c .before .before .give-back .ensures)
-
 pub load-cells-spec : {M : Type 1} → statement M
-load-cells-spec = tie.close (tie.spec lent-requires load-requires give-back-requires same-length returns)
+load-cells-spec = tie.close (tie.spec
+    (λ c κs. search needs)  -- lent-requires
+    (λ c κs. search needs)  -- load-requires
+    (λ c κs. search needs)  -- give-back-requires
+    (λ c. search needs)  -- same-length
+    (λ c. cleared-back _ _ _ _ _ (c .before .before .before .before .before .load .ensures) (c .before .before .before .before .before .before .lent .ensures .1) (c .before .before .give-back .ensures))  -- returns
+    )
