@@ -33,6 +33,17 @@ answerOf words =
 unfoldable pub answerIn : List ℕ → Answer
 answerIn bytes = answerOf (wordsOf bytes)
 
+-- the checker's answer and the compiler's, which never stop
+unfoldable pub checkedOf : Answer → Checked
+checkedOf (Done v z n) = Accepted
+checkedOf (Stopped k p z n) = CheckRefused k p
+checkedOf (Refused k p) = CheckRefused k p
+
+unfoldable pub compiledOf : Answer → Compiled
+compiledOf (Done v z n) = Written n
+compiledOf (Stopped k p z n) = CompileRefused k p
+compiledOf (Refused k p) = CompileRefused k p
+
 -- ---- what was written is what is read
 
 words-first : (ws rest : List ℕ) → wordsOf (bytesOf ws ++ rest) ≡ ws ++ wordsOf rest
@@ -65,3 +76,14 @@ module _ (slice : List ℕ) (room : 28 ≤ length slice) where
   compiled-read (CompileRefused k p) v z n e =
       let b : Refused k p ≡ Done v z n = sym (written (compiledWords (CompileRefused k p))) ∙ e in
       absurd (let y : _≡_ {A = ℕ} 0 1 = cc in omega arith)
+
+  pub check-read : (x : Checked) → checkedOf (answerIn (answerBytes slice (checkedWords x))) ≡ x
+  unfolding checkedWords answerOf checkedOf
+  check-read Accepted = ap checkedOf (written (checkedWords Accepted))
+  check-read (CheckRefused k p) = ap checkedOf (written (checkedWords (CheckRefused k p)))
+
+  pub compile-read : (x : Compiled) → compiledOf (answerIn (answerBytes slice (compiledWords x))) ≡ x
+  unfolding compiledWords answerOf compiledOf
+  compile-read (Written n) =
+      ap compiledOf (written (compiledWords (Written n))) ∙ (let e : n / 2 ^ 32 * 2 ^ 32 + n % 2 ^ 32 ≡ n = omega arith in ap Written e)
+  compile-read (CompileRefused k p) = ap compiledOf (written (compiledWords (CompileRefused k p)))

@@ -5,16 +5,23 @@ use mathlib.Core.Path.{_≡_, refl, sym, ap, _∙_}
 use lib.ListN.{length}
 use Rattle.definitions.specs.Bytes.{wordsOf}
 use Rattle.definitions.specs.declared.Answer.{Answer}
-use Rattle.definitions.specs.Host.{loadBytes, clearBytes, pokeBytes, peekBytes, callBytes, answerWords, answerBytes}
+use Rattle.definitions.specs.declared.Checked.{Checked}
+use Rattle.definitions.specs.declared.Compiled.{Compiled}
+use Rattle.definitions.specs.Host.{checkBytes, compileBytes, checkedWords, compiledWords, loadBytes, clearBytes, pokeBytes, peekBytes, callBytes, answerWords, answerBytes}
 use Rattle.words.proofs.Laws.{Bytes}
 use Rattle.results.specs.Answers.{LoadRefusal, RequestRefusal, Serves, CallsBytes}
+use Rattle.results.specs.Answers.{Checks as CheckResult, Compiles as CompileResult}
 use Rattle.results.specs.Results.{property-1-bytes}
-use Rattle.tinesage.specs.Contracts.{Loads, Clears, Pokes, Peeks, Calls}
-use Rattle.promises.specs.AnswerBytes.{answerIn, answer-read}
+use Rattle.tinesage.specs.Contracts.{Checks, Compiles, Loads, Clears, Pokes, Peeks, Calls}
+use Rattle.promises.specs.AnswerBytes.{answerIn, checkedOf, compiledOf, answer-read, check-read, compile-read}
 
 -- ---- The statement: `Bytes cells` says that the lent elements are bytes; at least 28 bytes are lent for the answer, which the host reads there
 
 pub record ResultsOfFunctions : Type 0 where
+  pub checks : (image answer answer′ : List ℕ) → 28 ≤ length answer → Checks image answer answer′
+      → CheckResult (length (wordsOf image)) (checkedOf (answerIn answer′))
+  pub compiles : (image out answer out′ answer′ : List ℕ) → Bytes out → 28 ≤ length answer → Compiles image out answer out′ answer′
+      → CompileResult (length (wordsOf image)) (length (wordsOf out)) out (compiledOf (answerIn answer′), out′)
   pub loads : (image cells answer cells′ answer′ : List ℕ) → Bytes cells → 28 ≤ length answer → Loads image cells answer cells′ answer′
       → Serves (LoadRefusal (length (wordsOf image))) cells (answerIn answer′, cells′)
   pub clears : (image cells answer cells′ answer′ : List ℕ) → Bytes cells → 28 ≤ length answer → Clears image cells answer cells′ answer′
@@ -38,6 +45,13 @@ module _ (x : Answer × List ℕ) (answer cells′ answer′ : List ℕ) (room :
 pub results-of-functions : ResultsOfFunctions
 results-of-functions =
     record {
+      checks = λ image answer answer′ room a.
+          let e : checkedOf (answerIn answer′) ≡ checkBytes image = ap (λ (b : List ℕ). checkedOf (answerIn b)) a ∙ check-read answer room (checkBytes image) in
+          rw e (property-1-bytes .checks image);
+      compiles = λ image out answer out′ answer′ b room (o, a).
+          let e : compiledOf (answerIn answer′) ≡ compileBytes image out .0 =
+          ap (λ (c : List ℕ). compiledOf (answerIn c)) a ∙ compile-read answer room (compileBytes image out .0) in
+          rw (e, o) (property-1-bytes .compiles image out b);
       loads = λ image cells answer cells′ answer′ b room (c, a).
           rw (read-both (loadBytes image cells) answer cells′ answer′ room c a) (property-1-bytes .loads image cells b);
       clears = λ image cells answer cells′ answer′ b room (c, a).
