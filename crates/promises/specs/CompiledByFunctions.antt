@@ -7,8 +7,12 @@ use Rattle.definitions.specs.Bytes.{wordsOf}
 use Rattle.definitions.specs.declared.Answer.{Answer}
 use Rattle.definitions.specs.declared.Answer.the-variants.{Done}
 use Rattle.definitions.specs.declared.Checked.{Checked}
+use Rattle.definitions.specs.declared.Checked.the-variants.{Accepted}
+use Rattle.definitions.specs.Checking.{checked}
+use Rattle.definitions.specs.Requests.{ready, readyTree, readyToLoad, served, load}
+use Rattle.requests.specs.Ready.{ready-accepted, enough-cells}
 use Rattle.definitions.specs.declared.Compiled.the-variants.{Written}
-use Rattle.definitions.specs.Image.{Image}
+use Rattle.definitions.specs.Image.{Image, cellCount}
 use Rattle.definitions.specs.Reading.{got, readImage}
 use Rattle.definitions.specs.Host.{wholeWords, checkBytes, compileBytes, loadBytes, clearBytes, pokeBytes, peekBytes, callBytes, answerWords, checkedWords, compiledWords, answerBytes}
 use Rattle.properties.specs.Compiled.{SameEnd, withGuard}
@@ -30,6 +34,9 @@ pub record KeepsMeaningFunctions (image target-image : List ℕ) : Type 0 where
   pub same-arrays : target .arrays ≡ source .arrays
   pub source-accepted : (answer answer′ : List ℕ) → 28 ≤ length answer → Checks image answer answer′ → answerIn answer′ ≡ Done 0 0 0
   pub target-accepted : (answer answer′ : List ℕ) → 28 ≤ length answer → Checks target-image answer answer′ → answerIn answer′ ≡ Done 0 0 0
+  -- tinesage_load loads the compiled image, where enough cells are lent
+  pub target-loads : (cells answer cells′ answer′ : List ℕ) → 28 ≤ length answer → cellCount (target .arrays) ≤ length (wordsOf cells)
+      → Loads target-image cells answer cells′ answer′ → answerIn answer′ ≡ Done 0 0 0
   -- tinesage_call of any procedure with any arguments, on equal cells, under any two budgets and with any two lent traces
   pub calls :
       (cells : List ℕ) (f : ℕ) (arguments arguments′ : List ℕ) (budget budget′ : ℕ) (trace trace′ answer answer′ : List ℕ)
@@ -54,6 +61,15 @@ pub record KeepsMeaningFunctions (image target-image : List ℕ) : Type 0 where
 read-as : (x : Answer) (answer answer′ : List ℕ) → 28 ≤ length answer → answer′ ≡ answerBytes answer (answerWords x) → answerIn answer′ ≡ x
 read-as x answer answer′ room e = ap answerIn e ∙ answer-read answer room x
 
+-- an image that the checker accepts loads, where enough cells are lent
+loaded : (image cells : List ℕ) (tree : Image) (n : ℕ) → readImage (wholeWords image) (wordsOf image) ≡ got tree n → checkBytes image ≡ Accepted
+    → cellCount (tree .arrays) ≤ length (wordsOf cells) → loadBytes image cells .0 ≡ Done 0 0 0
+unfolding loadBytes load served readyToLoad checkBytes checked
+loaded image cells tree n r e h =
+    let q : readyTree (readImage (wholeWords image) (wordsOf image)) (length (wordsOf cells)) ≡ ready tree =
+    ready-accepted (readImage (wholeWords image) (wordsOf image)) (length (wordsOf cells)) tree n r e ∙ enough-cells tree (length (wordsOf cells)) h in
+    rw q
+
 -- two requests that are one by the definitions
 alike : (x y : Answer × List ℕ) (answer cells′ answer′ cells″ answer″ : List ℕ) → y ≡ x → (cells′ ≡ x .1) × (answer′ ≡ answerBytes answer (answerWords (x .0)))
     → (cells″ ≡ y .1) × (answer″ ≡ answerBytes answer (answerWords (y .0))) → (cells″ ≡ cells′) × (answer″ ≡ answer′)
@@ -77,6 +93,9 @@ module _ (image target-image : List ℕ) (k : KeepsMeaningBytes image target-ima
             ap answerIn (e ∙ ap (λ (x : Checked). answerBytes answer (checkedWords x)) (k .source-accepted)) ∙ accepted-read answer room;
         target-accepted = λ answer answer′ room e.
             ap answerIn (e ∙ ap (λ (x : Checked). answerBytes answer (checkedWords x)) (k .target-accepted)) ∙ accepted-read answer room;
+        target-loads = λ cells answer cells′ answer′ room enough p.
+            read-as (loadBytes target-image cells .0) answer answer′ room (p .1)
+            ∙ loaded target-image cells (k .target) (length (wordsOf target-image)) (k .target-read) (k .target-accepted) enough;
         calls = λ cells f arguments arguments′ budget budget′ trace trace′ answer answer′ cells-after cells-after′ trace-after trace-after′ answer-after answer-after′ e room room′ p q.
             let a = read-as (callBytes image cells f arguments budget trace .0) answer answer-after room (p .2) in
             let b = read-as (callBytes target-image cells f arguments′ budget′ trace′ .0) answer′ answer-after′ room′ (q .2) in
