@@ -87,3 +87,7 @@ module _ (slice : List ℕ) (room : 28 ≤ length slice) where
   compile-read (Written n) =
       ap compiledOf (written (compiledWords (Written n))) ∙ (let e : n / 2 ^ 32 * 2 ^ 32 + n % 2 ^ 32 ≡ n = omega arith in ap Written e)
   compile-read (CompileRefused k p) = ap compiledOf (written (compiledWords (CompileRefused k p)))
+
+-- what is read in the slice that a function wrote its answer to is the definition's answer
+pub read-as : (x : Answer) (answer answer′ : List ℕ) → 28 ≤ length answer → answer′ ≡ answerBytes answer (answerWords x) → answerIn answer′ ≡ x
+read-as x answer answer′ room e = ap answerIn e ∙ answer-read answer room x

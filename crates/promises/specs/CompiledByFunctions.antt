@@ -18,7 +18,7 @@ use Rattle.definitions.specs.Host.{wholeWords, checkBytes, compileBytes, loadBy
 use Rattle.properties.specs.Compiled.{SameEnd, withGuard}
 use Rattle.properties.specs.CompiledBytes.{KeepsMeaningBytes, compiled-bytes-keep-meaning}
 use Rattle.tinesage.specs.Contracts.{Checks, Compiles, Loads, Clears, Pokes, Peeks, Calls}
-use Rattle.promises.specs.AnswerBytes.{answerIn, answer-read, accepted-read, compiled-read}
+use Rattle.promises.specs.AnswerBytes.{answerIn, read-as, accepted-read, compiled-read}
 
 -- ---- The statement
 
@@ -56,10 +56,6 @@ pub record KeepsMeaningFunctions (image target-image : List ℕ) : Type 0 where
       → answer″ ≡ answer′
 
 -- ---- The proof
-
--- what is read in the answer is the definition's
-read-as : (x : Answer) (answer answer′ : List ℕ) → 28 ≤ length answer → answer′ ≡ answerBytes answer (answerWords x) → answerIn answer′ ≡ x
-read-as x answer answer′ room e = ap answerIn e ∙ answer-read answer room x
 
 -- an image that the checker accepts loads, where enough cells are lent
 loaded : (image cells : List ℕ) (tree : Image) (n : ℕ) → readImage (wholeWords image) (wordsOf image) ≡ got tree n → checkBytes image ≡ Accepted

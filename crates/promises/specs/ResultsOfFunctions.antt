@@ -13,7 +13,7 @@ use Rattle.results.specs.Answers.{LoadRefusal, RequestRefusal, Serves, CallsByt
 use Rattle.results.specs.Answers.{Checks as CheckResult, Compiles as CompileResult}
 use Rattle.results.specs.Results.{property-1-bytes}
 use Rattle.tinesage.specs.Contracts.{Checks, Compiles, Loads, Clears, Pokes, Peeks, Calls}
-use Rattle.promises.specs.AnswerBytes.{answerIn, checkedOf, compiledOf, answer-read, check-read, compile-read}
+use Rattle.promises.specs.AnswerBytes.{answerIn, checkedOf, compiledOf, read-as, check-read, compile-read}
 
 -- ---- The statement: `Bytes cells` says that the lent elements are bytes; at least 28 bytes are lent for the answer, which the host reads there
 
@@ -40,7 +40,7 @@ pub record ResultsOfFunctions : Type 0 where
 module _ (x : Answer × List ℕ) (answer cells′ answer′ : List ℕ) (room : 28 ≤ length answer) (c : cells′ ≡ x .1)
     (a : answer′ ≡ answerBytes answer (answerWords (x .0))) where
   read-both : _≡_ {A = Answer × List ℕ} (answerIn answer′, cells′) x
-  read-both = let e : answerIn answer′ ≡ x .0 = ap answerIn a ∙ answer-read answer room (x .0) in rw (e, c)
+  read-both = let e : answerIn answer′ ≡ x .0 = read-as (x .0) answer answer′ room a in rw (e, c)
 
 pub results-of-functions : ResultsOfFunctions
 results-of-functions =
@@ -62,6 +62,6 @@ results-of-functions =
           rw (read-both (peekBytes image cells a i) answer cells answer′ room c d) (property-1-bytes .peeks image cells b a i);
       calls = λ image cells f arguments budget trace answer cells′ trace′ answer′ b room (c, t, a).
           let e : answerIn answer′ ≡ callBytes image cells f arguments budget trace .0 =
-          ap answerIn a ∙ answer-read answer room (callBytes image cells f arguments budget trace .0) in
+          read-as (callBytes image cells f arguments budget trace .0) answer answer′ room a in
           rw (e, c, t) (property-1-bytes .calls image cells b f arguments budget trace);
     }

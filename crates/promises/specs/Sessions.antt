@@ -9,7 +9,7 @@ use Rattle.definitions.specs.declared.Answer.{Answer}
 use Rattle.definitions.specs.Host.{loadBytes, clearBytes, pokeBytes, peekBytes, callBytes, answerWords, answerBytes}
 use Rattle.secrecy.specs.Sessions.{Machine, Request, load, poke, peek, clear, call, Response, accepted, turn, imageOf, secretResult, SameResponse, SameTurns, noTurn, oneTurn}
 use Rattle.tinesage.specs.Contracts.{Loads, Clears, Pokes, Peeks, Calls}
-use Rattle.promises.specs.AnswerBytes.{answerIn, answer-read}
+use Rattle.promises.specs.AnswerBytes.{answerIn, read-as}
 
 -- ---- The statement
 
@@ -41,10 +41,6 @@ pub data SameSessions : Machine → List Request → List Response → List Resp
       → SameResponse (secretResult (imageOf (m .image)) r) x y → SameSessions (x .after) rs xs ys → SameSessions m (r ∷ rs) (x ∷ xs) (y ∷ ys)
 
 -- ---- The proof
-
--- what is read in the answer is the definition's
-read-as : (x : Answer) (answer answer′ : List ℕ) → 28 ≤ length answer → answer′ ≡ answerBytes answer (answerWords x) → answerIn answer′ ≡ x
-read-as x answer answer′ room e = ap answerIn e ∙ answer-read answer room x
 
 -- each function serves its request as the definition does
 served-turn : {m : Machine} {r : Request} {x : Response} → Serves m r x → x ≡ turn m r
