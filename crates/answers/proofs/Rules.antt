@@ -1,10 +1,9 @@
 -- Each way in which an answer is put into the lent bytes. Assumes nothing.
-use mathlib.Core.Path.{_≡_, refl, ap, sym, _∙_}
-use mathlib.Core.List.{List, [], _∷_, _++_}
-use Prim.Native.Nat.{ℕ, _*_, _≤_, _<_}
-use native.Mathlib.Omega.{arith}
+use mathlib.Core.Path.{_≡_}
+use mathlib.Core.List.{List, _++_}
+use Prim.Native.Nat.{ℕ, _≤_, _<_}
 use borrow.Author.Tests.{le-leb, lt-leb}
-use lib.ListN.{length, take, drop}
+use lib.ListN.{length, drop}
 use Rattle.definitions.specs.Bytes.{bytesOf, lent}
 use Rattle.definitions.specs.Host.{layout, answerWords, checkedWords, compiledWords, answerBytes}
 use Rattle.definitions.specs.declared.Answer.{Answer}
@@ -13,7 +12,7 @@ use Rattle.definitions.specs.declared.Checked.{Checked}
 use Rattle.definitions.specs.declared.Checked.the-variants.{Accepted, Refused as CheckRefused}
 use Rattle.definitions.specs.declared.Compiled.{Compiled}
 use Rattle.definitions.specs.declared.Compiled.the-variants.{Written, Refused as CompileRefused}
-use Rattle.places.specs.Named.{answerPlace, checkedPlace, compiledPlace}
+use Rattle.results.specs.Named.{answerPlace, checkedPlace, compiledPlace}
 
 module _ (slice : List ℕ) where
   pub layout-short : (words : List ℕ) → length slice < 28 → slice ≡ answerBytes slice words

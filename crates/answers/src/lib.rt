@@ -2,7 +2,7 @@
 ghost use mathlib.Core.Path.{_≡_};
 ghost use Prim.Native.Nat.{_<_};
 ghost use Rattle.definitions.specs.Host.{layout, answerWords, checkedWords, compiledWords, answerBytes};
-ghost use Rattle.places.specs.Named.{answerPlace, checkedPlace, compiledPlace};
+ghost use Rattle.results.specs.Named.{answerPlace, checkedPlace, compiledPlace};
 
 // A slice that is too short for the seven words stays as it is.
 fn put_layout(

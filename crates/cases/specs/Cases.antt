@@ -1,27 +1,37 @@
 -- Document 01, "Cases": those that carry a star, and its example image, as one table with one theorem over the whole of it, proved by computing.
 -- Assumes nothing.
 use Prim.Native.Nat.{ℕ}
-use mathlib.Core.Bool.{Bool, true, false}
+use mathlib.Core.Bool.{true}
 use mathlib.Core.Path.{_≡_, refl}
-use mathlib.Core.List.{List, [], _∷_}
+use mathlib.Core.List.{List, [], _∷_, flatMap}
 use lib.ListN.{replicate}
-use Rattle.definitions.specs.declared.Checked.{Checked}
 use Rattle.definitions.specs.declared.Checked.the-variants.{Refused as NotAccepted}
 use Rattle.definitions.specs.declared.Compiled.{Compiled}
 use Rattle.definitions.specs.declared.Compiled.the-variants.{Written}
 use Rattle.definitions.specs.declared.Answer.{Answer}
 use Rattle.definitions.specs.declared.Answer.the-variants.{Done, Stopped}
 use Rattle.definitions.specs.Operators.{applyBinary, applyUnary}
-use Rattle.definitions.specs.Image.{headerWord, arrayWord, procedureWord, typeWord, blockWord, statementWord, expressionWord, rawWord, placeOf, cellCount, baseOf}
-use Rattle.definitions.specs.Reading.{readExpression, readArguments, readStatements, readStatement, readTypes, readProcedure, readProcedures, readArrays, readRest, readImage}
+use Rattle.definitions.specs.Image.{headerWord, arrayWord, procedureWord, typeWord, blockWord, statementWord}
+use Rattle.definitions.specs.Image.{expressionWord, rawWord, placeOf, cellCount, baseOf}
+use Rattle.definitions.specs.Reading.{readExpression, readArguments, readStatements, readStatement, readTypes}
+use Rattle.definitions.specs.Reading.{readProcedure, readProcedures, readArrays, readRest, readImage}
 use Rattle.definitions.specs.Faults.{least}
-use Rattle.definitions.specs.Sorts.{sortIn, markStatement, sortFaults, argumentFaults, statementSortFaults, procedureSortFaults, proceduresSortFaults, imageSortFaults}
-use Rattle.definitions.specs.Labels.{secretIn, rcAfter, isConstant, constantValue, boundedIndex, labelFaults, argumentLabelFaults, statementLabelFaults, procedureLabelFaults, proceduresLabelFaults, imageLabelFaults}
-use Rattle.definitions.specs.Checking.{faultOf, judged, checked}
-use Rattle.definitions.specs.Encoding.{expressionWords, argumentWords, statementCount, statementWords, blockWords, procedureWords, proceduresWords, imageWords}
-use Rattle.definitions.specs.Compiling.{moved, movedAll, act, masked, under, followedBy, temporaries, compiledIf, compiledReturn, compiledCall, compiledStatement, closed, compiledTypes, compiledBody, compiledProcedure, compiledProcedures, compiledImage, fitLocals, written, compiledTree, compiled}
-use Rattle.definitions.specs.Running.{emit, inArray, indexAt, divided, operated, evaluate, evaluateAll, tick, passes, taken, received, runStatement, frame, finish, runProcedure}
-use Rattle.definitions.specs.Requests.{readyTree, readyToLoad, readyToServe, argumentValues, ended, calledOn, servedCall, call}
+use Rattle.definitions.specs.Sorts.{sortIn, markStatement, sortFaults, argumentFaults, statementSortFaults}
+use Rattle.definitions.specs.Sorts.{procedureSortFaults, proceduresSortFaults, imageSortFaults}
+use Rattle.definitions.specs.Labels.{secretIn, rcAfter, isConstant, constantValue, boundedIndex, labelFaults}
+use Rattle.definitions.specs.Labels.{argumentLabelFaults, statementLabelFaults, procedureLabelFaults}
+use Rattle.definitions.specs.Labels.{proceduresLabelFaults, imageLabelFaults}
+use Rattle.definitions.specs.Checking.{faultOf, withoutFault, admitted, verdict, checked}
+use Rattle.definitions.specs.Encoding.{expressionWords, argumentWords, statementCount, statementWords, blockWords}
+use Rattle.definitions.specs.Encoding.{procedureWords, proceduresWords, imageWords}
+use Rattle.definitions.specs.Compiling.{moved, movedAll, act, masked, under, followedBy, temporaries, compiledIf}
+use Rattle.definitions.specs.Compiling.{compiledReturn, compiledCall, compiledStatement, closed, compiledTypes}
+use Rattle.definitions.specs.Compiling.{compiledBody, compiledProcedure, compiledProcedures, compiledImage, fitLocals}
+use Rattle.definitions.specs.Compiling.{written, compiledTree, compiled}
+use Rattle.definitions.specs.Running.{emit, inArray, indexAt, divided, operated, evaluate, evaluateAll, tick, passes}
+use Rattle.definitions.specs.Running.{taken, received, runStatement, frame, finish, runProcedure}
+use Rattle.definitions.specs.Requests.{withCells, readyToLoad, readyToServe, argumentValues, ended, calledOn}
+use Rattle.definitions.specs.Requests.{servedCall, call}
 
 -- A case: an image that the checker refuses; an image that compiles to words; a call of procedure 0 of an image without arrays.
 pub data Case : Type 0 where
@@ -98,5 +108,5 @@ starred =
 
 -- Every case of the table holds.
 pub starred-hold : AllHold starred
-unfolding applyBinary applyUnary headerWord arrayWord procedureWord typeWord blockWord statementWord expressionWord rawWord placeOf cellCount baseOf readExpression readArguments readStatements readStatement readTypes readProcedure readProcedures readArrays readRest readImage least sortIn markStatement sortFaults argumentFaults statementSortFaults procedureSortFaults proceduresSortFaults imageSortFaults secretIn rcAfter isConstant constantValue boundedIndex labelFaults argumentLabelFaults statementLabelFaults procedureLabelFaults proceduresLabelFaults imageLabelFaults faultOf judged checked expressionWords argumentWords statementCount statementWords blockWords procedureWords proceduresWords imageWords moved movedAll act masked under followedBy temporaries compiledIf compiledReturn compiledCall compiledStatement closed compiledTypes compiledBody compiledProcedure compiledProcedures compiledImage fitLocals written compiledTree compiled emit inArray indexAt divided operated evaluate evaluateAll tick passes taken received runStatement frame finish runProcedure readyTree readyToLoad readyToServe argumentValues ended calledOn servedCall call
+unfolding applyBinary applyUnary headerWord arrayWord procedureWord typeWord blockWord statementWord expressionWord rawWord placeOf cellCount baseOf readExpression readArguments readStatements readStatement readTypes readProcedure readProcedures readArrays readRest readImage least sortIn markStatement sortFaults argumentFaults statementSortFaults procedureSortFaults proceduresSortFaults imageSortFaults secretIn rcAfter isConstant constantValue boundedIndex labelFaults argumentLabelFaults statementLabelFaults procedureLabelFaults proceduresLabelFaults imageLabelFaults faultOf withoutFault admitted verdict checked flatMap expressionWords argumentWords statementCount statementWords blockWords procedureWords proceduresWords imageWords moved movedAll act masked under followedBy temporaries compiledIf compiledReturn compiledCall compiledStatement closed compiledTypes compiledBody compiledProcedure compiledProcedures compiledImage fitLocals written compiledTree compiled emit inArray indexAt divided operated evaluate evaluateAll tick passes taken received runStatement frame finish runProcedure withCells readyToLoad readyToServe argumentValues ended calledOn servedCall call
 starred-hold = (refl, (refl, (refl, (refl, (refl, (refl, (refl, (refl, (refl, (refl, tt))))))))))

@@ -1,26 +1,28 @@
 -- Rules for judging the procedures of an image: what the calls ask, and what they give. Assumes nothing.
-use Prim.Native.Nat.{ℕ, zero, suc, _+_, _-_, _/_, _%_, _≤_, _<_}
+use Prim.Native.Nat.{ℕ, _+_, _-_, _≤_, _<_}
 use native.Mathlib.Omega.{arith}
 use native.Mathlib.Numerals.{add-one}
 use mathlib.Core.Path.{_≡_, refl, sym, ap, _∙_}
-use mathlib.Core.Bool.{Bool, true, false}
-use mathlib.Core.List.{List, [], _∷_, _++_}
+use mathlib.Core.Bool.{true}
+use mathlib.Core.List.{List, flatMap}
 use lib.ListN.{length, getD, take, drop, replicate}
 use lib.Seq.{drop-cons, drop-length}
 use Rattle.definitions.specs.declared.Fault.{Fault}
-use Rattle.definitions.specs.Image.{formOf, arraysOf, proceduresOf, largestLevel, parametersOf, localsOf, Block, Procedure, noProcedure, procedureAt}
-use Rattle.definitions.specs.Reading.{Parse, got, refused, readBlock, readImage}
+use Rattle.definitions.specs.Image.{formOf, arraysOf, proceduresOf, largestLevel, parametersOf, localsOf, Procedure}
+use Rattle.definitions.specs.Image.{noProcedure, procedureAt}
+use Rattle.definitions.specs.Reading.{got, readBlock, readImage}
 use Rattle.definitions.specs.Faults.{noFault, least}
-use Rattle.definitions.specs.Sorts.{markBlock, blockSortFaults, procedureSortFaults, proceduresSortFaults, imageSortFaults}
+use Rattle.definitions.specs.Sorts.{markBlock, procedureSortFaults, proceduresSortFaults, imageSortFaults}
 use Rattle.laws.specs.Least.{least-append}
-use Rattle.opening.specs.Parses.{ok, ok-of}
-use Rattle.opening.specs.Statements.{open-block}
-use Rattle.signatures.specs.Signatures.{imageIn, Signature}
+use Rattle.laws.specs.Parses.{ok, ok-of}
+use Rattle.laws.specs.StatementInversion.{open-block}
+use Rattle.laws.specs.ImageIn.{imageIn, image-words}
+use Rattle.signatures.specs.Signatures.{Signature}
 use Rattle.sorts.specs.declared.leaves.Walked.{Walked}
 use Rattle.sorts.specs.Walk.{blockWalked}
 use Rattle.sorts.specs.Marking.{blockMarks}
-use Rattle.checker.specs.Known.{procedureIn, bodyPlace, Known, AllKnown, types-are, opened, all-known}
 use Rattle.reader.specs.Tables.{Filled}
+use Rattle.checker.specs.Known.{procedureIn, bodyPlace, Known, AllKnown, types-are, all-known}
 
 module _ (words params places : List ℕ) (level me : ℕ) (k : Known words params places level me) (place : ℕ) (e : place ≡ getD places me 0)
     (w : ℕ) (ew : w ≡ getD words place 0) (n : ℕ) (en : n ≡ parametersOf w + localsOf w) where
@@ -78,13 +80,13 @@ module _ (ps : List Procedure) (arrays : ℕ) where
       → least found (proceduresSortFaults ps arrays (drop me ps)) ≡ X
       → lowest ≡ least found (procedureSortFaults ps arrays (procedureAt ps me))
       → least lowest (proceduresSortFaults ps arrays (drop (me + 1) ps)) ≡ X
-  unfolding proceduresSortFaults
+  unfolding flatMap proceduresSortFaults
   sorts-more found lowest X me count c b i q =
       let h : me < length ps = omega arith in
       rw (q, ← least-append, add-one) (ap (λ z. least found (proceduresSortFaults ps arrays z)) (sym (drop-cons ps me noProcedure h)) ∙ i)
 
   pub sorts-done : (found X : Fault) (me count : ℕ) → count ≡ length ps → count ≤ me → me ≤ count → least found (proceduresSortFaults ps arrays (drop me ps)) ≡ X → found ≡ X
-  unfolding proceduresSortFaults least
+  unfolding flatMap proceduresSortFaults least
   sorts-done found X me count c h g i =
       let e : me ≡ length ps = omega arith in
       ap (λ z. least found (proceduresSortFaults ps arrays z)) (sym (drop-length ps) ∙ ap (λ z. drop z ps) (sym e)) ∙ i
@@ -96,12 +98,12 @@ module _ (words params places : List ℕ) (long : 32 ≤ length places) (t : ok 
   pub image-asks : (level : ℕ) → level ≡ largestLevel (formOf w)
       → (proceduresOf w ≡ length (imageIn words .procedures)) × AllKnown words params places level (proceduresOf w)
   image-asks level h =
-      let o = opened words params places long t f in
+      let (n, o) = image-words words t in
       (ap proceduresOf e ∙ sym (o .count), all-known words params places long t f level (proceduresOf w) (h ∙ ap (λ z. largestLevel (formOf z)) e) (ap proceduresOf e))
 
   pub image-sorted : (r : Fault) → r ≡ least noFault (proceduresSortFaults (imageIn words .procedures) (arraysOf w) (imageIn words .procedures))
       → r ≡ least noFault (imageSortFaults (imageIn words))
   unfolding imageSortFaults
   image-sorted r q =
-      let o = opened words params places long t f in
+      let (n, o) = image-words words t in
       q ∙ ap (λ z. least noFault (proceduresSortFaults (imageIn words .procedures) z (imageIn words .procedures))) (ap arraysOf e ∙ sym (o .arrays .words .count))

@@ -1,13 +1,12 @@
 -- Rules for the checker's answer. Assumes nothing.
-use Prim.Native.Nat.{ℕ, zero, suc, _+_, _≤_, _<_}
+use Prim.Native.Nat.{ℕ, _≤_}
 use native.Mathlib.Omega.{arith}
 use mathlib.Core.Path.{_≡_, refl, sym, ap, _∙_}
 use mathlib.Core.Bool.{Bool, true, false}
-use mathlib.Core.List.{List, []}
+use mathlib.Core.List.{List}
 use lib.Dec.{eqb}
-use lib.ListN.{length, getD}
+use lib.ListN.{length}
 use borrow.Author.Tests.{eq-eqb, ne-eqb}
-use Rattle.definitions.specs.Choice.{pick}
 use Rattle.definitions.specs.declared.Fault.{Fault}
 use Rattle.definitions.specs.declared.Checked.{Checked}
 use Rattle.definitions.specs.declared.Checked.the-variants.{Accepted, Refused}
@@ -16,16 +15,15 @@ use Rattle.definitions.specs.Reading.{Parse, got, refused, readImage}
 use Rattle.definitions.specs.Faults.{noFault, least}
 use Rattle.definitions.specs.Sorts.{imageSortFaults}
 use Rattle.definitions.specs.Labels.{imageLabelFaults}
-use Rattle.definitions.specs.Checking.{faultOf, judged, checked}
-use Rattle.opening.specs.Parses.{ok, ok-of, got-ok, treeOr, got-parts, tree-of}
-use Rattle.opening.specs.Images.{ImageWords, open-image}
-use Rattle.signatures.specs.Signatures.{noImage, imageIn}
+use Rattle.definitions.specs.Checking.{faultOf, withoutFault, admitted, verdict, checked}
+use Rattle.laws.specs.Parses.{ok, ok-of}
+use Rattle.laws.specs.ReadImages.{open-image}
+use Rattle.laws.specs.ImageIn.{imageIn, image-in, image-read}
 use Rattle.reader.specs.declared.Read.{Read}
 use Rattle.reader.specs.declared.Read.the-variants.{At, Refused as ReadRefused}
 use Rattle.reader.specs.Answers.{answer}
-use Rattle.reader.specs.Tables.{Filled, Tables, TablesOf, tables-of}
+use Rattle.reader.specs.Tables.{Filled, TablesOf, tables-of}
 use Rattle.labels.specs.Known.{judged as lowestLabel}
-use Rattle.checker.specs.Known.{image-read}
 
 module _ (words : List ℕ) (s : Fault) (q : s ≡ least noFault (imageSortFaults (imageIn words))) where
   pub fault-sorts : (s .number ≡ 0 → ⊥) → s ≡ faultOf (imageIn words)
@@ -40,10 +38,6 @@ module _ (words : List ℕ) (s : Fault) (q : s ≡ least noFault (imageSortFault
       let n : eqb (least noFault (imageSortFaults (imageIn words)) .number) 0 ≡ true = ap (λ (z : Fault). eqb (z .number) 0) (sym q) ∙ eq-eqb (s .number) 0 h in
       rw n p
 
-image-named : (words : List ℕ) (tree : Image) (n : ℕ) → readImage true words ≡ got tree n → imageIn words ≡ tree
-unfolding imageIn
-image-named words tree n y = tree-of noImage (readImage true words) tree n y
-
 -- what the label pass asks, and what it gives
 pub labels-asks : (words params places : List ℕ) → 32 ≤ length params → ok (readImage true words) ≡ true
     → Filled (imageIn words .form) words params places (imageIn words .procedures)
@@ -56,15 +50,15 @@ unfolding lowestLabel
 labels-are words t r q = let (n, e) = image-read words t in q ∙ rw e
 
 module _ (words : List ℕ) (t : ok (readImage true words) ≡ true) (f : Fault) (q : f ≡ faultOf (imageIn words)) where
-  pub verdict-refused : (f .number ≡ 0 → ⊥) → Refused (f .number) (f .place) ≡ judged (readImage true words)
-  unfolding judged
+  pub verdict-refused : (f .number ≡ 0 → ⊥) → Refused (f .number) (f .place) ≡ checked true words
+  unfolding checked admitted withoutFault verdict
   verdict-refused h =
       let (n, r) = image-read words t in
       let e : eqb (faultOf (imageIn words) .number) 0 ≡ false = ap (λ (z : Fault). eqb (z .number) 0) (sym q) ∙ ne-eqb (f .number) 0 h in
       rw (r, e, q)
 
-  pub verdict-accepted : f .number ≡ 0 → Accepted ≡ judged (readImage true words)
-  unfolding judged
+  pub verdict-accepted : f .number ≡ 0 → Accepted ≡ checked true words
+  unfolding checked admitted withoutFault verdict
   verdict-accepted h =
       let (n, r) = image-read words t in
       let e : eqb (faultOf (imageIn words) .number) 0 ≡ true = ap (λ (z : Fault). eqb (z .number) 0) (sym q) ∙ eq-eqb (f .number) 0 h in
@@ -72,10 +66,10 @@ module _ (words : List ℕ) (t : ok (readImage true words) ≡ true) (f : Fault)
 
 module _ (whole : Bool) (words : List ℕ) (w : ℕ) (r : Read) (q : r ≡ answer w (readImage whole words)) where
   pub refused-is : (n p : ℕ) → r ≡ ReadRefused n p → Refused n p ≡ checked whole words
-  unfolding answer checked judged
+  unfolding answer checked admitted withoutFault verdict
   refused-is n p e = go (readImage whole words) q
     where
-      go : (x : Parse Image) → r ≡ answer w x → Refused n p ≡ judged x
+      go : (x : Parse Image) → r ≡ answer w x → Refused n p ≡ verdict (withoutFault x)
       go (got image m) d = let z : _≡_ {A = ℕ} 0 1 = cc in absurd (omega arith)
       go (refused m o) d = let a : n ≡ m = cc in let b : p ≡ o = cc in rw (a, b)
 
@@ -98,10 +92,9 @@ module _ (whole : Bool) (words : List ℕ) (w : ℕ) (r : Read) (q : r ≡ answe
     verdict-asks params places ends hp hq t =
         let (tree, n, z) = read-tree in
         let y : readImage true words ≡ got tree n = ap (λ b. readImage b words) (sym is-whole) ∙ z in
-        let i : imageIn words ≡ tree = image-named words tree n y in
+        let i : imageIn words ≡ tree = image-in words tree n y in
         let b = tables-of (readImage whole words) words params places ends tree n t z in
         (omega arith, omega arith, ok-of (readImage true words) tree n y, rw i (b .filled))
 
-    pub accepted-is : (a : Checked) → a ≡ judged (readImage true words) → a ≡ checked whole words
-    unfolding checked
-    accepted-is a d = d ∙ ap (λ b. judged (readImage b words)) (sym is-whole)
+    pub accepted-is : (a : Checked) → a ≡ checked true words → a ≡ checked whole words
+    accepted-is a d = d ∙ ap (λ b. checked b words) (sym is-whole)

@@ -1,22 +1,17 @@
 -- What the checker knows of each procedure of an image that was read, by the tables that the reader left. Assumes nothing.
-use Prim.Native.Nat.{ℕ, zero, suc, _+_, _-_, _≤_, _<_}
+use Prim.Native.Nat.{ℕ, _+_, _≤_, _<_}
 use native.Mathlib.Omega.{arith}
-use mathlib.Core.Path.{_≡_, refl, sym, ap, _∙_}
-use mathlib.Core.Bool.{Bool, true, false, _&&_}
-use mathlib.Core.List.{List, [], _∷_}
+use mathlib.Core.Path.{_≡_, refl, sym}
+use mathlib.Core.Bool.{true}
+use mathlib.Core.List.{List, []}
 use lib.ListN.{length, getD, take, drop, length-take, length-drop}
 use lib.Seq.{ext-getD, getD-take, getD-drop}
-use borrow.Author.Tests.{leb-true}
-use lib.Dec.{eqb, ltb, leb}
-use Rattle.definitions.specs.Image.{kindOf, formOf, arraysOf, proceduresOf, headerWord, modeOf, parametersOf, localsOf, largestLevel, Block, Procedure, Image, procedureAt}
-use Rattle.definitions.specs.Reading.{Parse, got, refused, readBlock, readImage}
-use Rattle.opening.specs.Parses.{ok, ok-of, endOf, treeOr, tree-of, got-parts}
-use Rattle.opening.specs.Words.{and-left, and-right}
-use Rattle.opening.specs.Places.{block-ends}
-use Rattle.opening.specs.WordLists.{Words}
-use Rattle.opening.specs.Procedures.{ProcedureWords}
-use Rattle.signatures.specs.Signatures.{noImage, imageIn, Signature, Signed}
-use Rattle.opening.specs.Images.{ImageWords, open-image}
+use Rattle.definitions.specs.Image.{formOf, proceduresOf, parametersOf, largestLevel, Procedure, Image, procedureAt}
+use Rattle.definitions.specs.Reading.{got, readBlock, readImage}
+use Rattle.laws.specs.Parses.{ok}
+use Rattle.laws.specs.Places.{block-ends}
+use Rattle.laws.specs.ImageIn.{imageIn, image-in, image-read, image-words, procedures-limit}
+use Rattle.signatures.specs.Signatures.{Signature, Signed}
 use Rattle.reader.specs.Tables.{BlockEnds, Filled, Tables}
 use Rattle.reader.specs.TableLaws.{table-procedure}
 
@@ -49,8 +44,7 @@ types-are words place p s n e =
 module _ (words : List ℕ) (tree : Image) (end : ℕ) (r : readImage true words ≡ got tree end) (params places ends : List ℕ) (t : Tables words tree params places ends)
     (long : length (tree .procedures) ≤ length places) where
   image-is : imageIn words ≡ tree
-  unfolding imageIn
-  image-is = tree-of noImage (readImage true words) tree end r
+  image-is = image-in words tree end r
 
   sign : (f : ℕ) → f < length (tree .procedures) → Signature words (getD places f 0) (procedureAt (tree .procedures) f)
   sign f h =
@@ -81,21 +75,6 @@ known-at words params places level count f a h = a f h
 
 -- ---- an image that was read
 
--- its tree, by the words' own name for it
-pub image-read : (words : List ℕ) → ok (readImage true words) ≡ true → (n : ℕ) × (readImage true words ≡ got (imageIn words) n)
-unfolding imageIn
-image-read words t = (endOf (readImage true words), got-parts noImage (readImage true words) t)
-
--- "1 to 32 procedures"
-pub procedures-limit : (w : ℕ) → headerWord w ≡ true → proceduresOf w ≤ 32
-unfolding headerWord
-procedures-limit w h =
-    leb-true (proceduresOf w) 32
-    (and-right (leb 1 (proceduresOf w)) (leb (proceduresOf w) 32)
-    (and-right (leb (arraysOf w) 16) (leb 1 (proceduresOf w) && leb (proceduresOf w) 32)
-    (and-right (ltb (formOf w) 2) (leb (arraysOf w) 16 && (leb 1 (proceduresOf w) && leb (proceduresOf w) 32))
-    (and-right (eqb (kindOf w) 1) (ltb (formOf w) 2 && (leb (arraysOf w) 16 && (leb 1 (proceduresOf w) && leb (proceduresOf w) 32))) h))))
-
 -- no block's end is known from an empty table
 no-ends : (words params : List ℕ) → BlockEnds words params []
 unfolding BlockEnds
@@ -103,14 +82,11 @@ no-ends words params at h = absurd (h refl)
 
 module _ (words params places : List ℕ) (long : 32 ≤ length places) (t : ok (readImage true words) ≡ true)
     (f : Filled (imageIn words .form) words params places (imageIn words .procedures)) where
-  pub opened : ImageWords true words (imageIn words) (image-read words t .0)
-  opened = open-image true words (imageIn words) (image-read words t .0) (image-read words t .1)
-
   pub all-known : (level count : ℕ) → level ≡ largestLevel (formOf (getD words 0 0)) → count ≡ proceduresOf (getD words 0 0) → AllKnown words params places level count
   unfolding AllKnown
   all-known level count hl hc g b =
-      let o = opened in
+      let (n, o) = image-words words t in
       let c = o .count in
-      let m : proceduresOf (getD words 0 0) ≤ 32 = procedures-limit (getD words 0 0) (o .header) in
-      let k = known words (imageIn words) (image-read words t .0) (image-read words t .1) params places [] (record { filled = f; blockEnds = no-ends words params }) (omega arith) g (omega arith) in
-      rw (hl, ← o .form) k
+      let m = procedures-limit o in
+      let tables : Tables words (imageIn words) params places [] = record { filled = f; blockEnds = no-ends words params } in
+      rw (hl, ← o .form) (known words (imageIn words) _ (image-read words t .1) params places [] tables (omega arith) g (omega arith))

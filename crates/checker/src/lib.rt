@@ -10,10 +10,10 @@ ghost use mathlib.Core.Bool.{Bool, true};
 ghost use Prim.Native.Nat.{ℕ, _≤_};
 ghost use lib.ListN.{length};
 ghost use Rattle.definitions.specs.Reading.{readImage};
-ghost use Rattle.definitions.specs.Checking.{faultOf, judged, checked};
-ghost use Rattle.opening.specs.Parses.{ok};
+ghost use Rattle.definitions.specs.Checking.{faultOf, checked};
+ghost use Rattle.laws.specs.Parses.{ok};
 ghost use Rattle.reader.specs.Tables.{Filled, TablesOf};
-ghost use Rattle.signatures.specs.Signatures.{imageIn};
+ghost use Rattle.laws.specs.ImageIn.{imageIn};
 
 // The lowest fault of an image that was read: of 6 to 8, and where it has none of 9 to 13.
 fn lowest_fault(image: &[u32], params: &[u32], places: &[u32]) -> Fault
@@ -35,7 +35,7 @@ fn lowest_fault(image: &[u32], params: &[u32], places: &[u32]) -> Fault
 // The verdict on an image that was read.
 fn verdict(image: &[u32], params: &[u32], places: &[u32]) -> Checked
     requires { ⌜ (32 ≤ length (now places)) × (32 ≤ length (now params)) × (ok (readImage true (now image)) ≡ true) × (Filled (imageIn (now image) .form) (now image) (now params) (now places) (imageIn (now image) .procedures)) ⌝ }
-    ensures { λ r. ⌜ r ≡ judged (readImage true (now (image .entry))) ⌝ }
+    ensures { λ r. ⌜ r ≡ checked true (now (image .entry)) ⌝ }
 {
     let found = lowest_fault(image, params, places);
     let number = found.number;

@@ -7,9 +7,9 @@ ghost use lib.ListN.{length};
 ghost use Rattle.definitions.specs.Reading.{readImage};
 ghost use Rattle.definitions.specs.Faults.{noFault, least};
 ghost use Rattle.definitions.specs.Sorts.{procedureSortFaults, proceduresSortFaults, imageSortFaults};
-ghost use Rattle.opening.specs.Parses.{ok};
+ghost use Rattle.laws.specs.Parses.{ok};
 ghost use Rattle.reader.specs.Tables.{Filled};
-ghost use Rattle.signatures.specs.Signatures.{imageIn};
+ghost use Rattle.laws.specs.ImageIn.{imageIn};
 ghost use Rattle.checker.specs.Known.{procedureIn, Known, AllKnown};
 
 // The procedure numbered `me`: its loop variables are marked before its statements are judged.

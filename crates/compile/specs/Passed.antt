@@ -5,8 +5,8 @@ use mathlib.Core.Bool.{true}
 use mathlib.Core.List.{List}
 use Rattle.definitions.specs.Reading.{readImage}
 use Rattle.definitions.specs.Checking.{faultOf}
-use Rattle.opening.specs.Parses.{ok}
-use Rattle.signatures.specs.Signatures.{imageIn}
+use Rattle.laws.specs.Parses.{ok}
+use Rattle.laws.specs.ImageIn.{imageIn}
 use Rattle.reader.specs.Tables.{Filled}
 
 pub record Passed (words params places : List ℕ) : Type 0 where

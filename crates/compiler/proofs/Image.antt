@@ -1,48 +1,31 @@
 -- What the returns of the emission of an image and of the compiler give, and what their calls ask. Assumes nothing.
 use Prim.Native.Nat.{ℕ, zero, suc, _+_, _*_, _-_, _/_, _%_, _≤_, _<_}
-use mathlib.Core.Bool.{Bool, true, false, _&&_, not}
+use mathlib.Core.Bool.{Bool, true, false, not}
 use mathlib.Core.List.{List, [], _∷_, _++_}
 use mathlib.Core.Path.{_≡_, refl, sym, ap, _∙_}
 use native.Mathlib.Omega.{arith}
-use borrow.Author.Tests.{leb-true, leb-false, le-leb, lt-leb, eqb-true, ltb-true, ltb-false, eqb-false, not-true, not-false}
+use borrow.Author.Tests.{leb-true, leb-false, le-leb, lt-leb, eqb-true, ltb-true, ltb-false, eqb-false, not-true}
+use borrow.Author.Tests.{not-false}
 use lib.Dec.{eqb, leb, ltb}
-use lib.ListN.{length, getD, take, drop, set, length-set, replicate, List·getD-eq-default}
+use lib.ListN.{length, getD, take, drop, set, replicate, List·getD-eq-default}
 use lib.Seq.{getD-set-same, getD-set-other}
 use Rattle.definitions.specs.declared.Compiled.{Compiled}
 use Rattle.definitions.specs.declared.Compiled.the-variants.{Written, Refused}
-use Rattle.definitions.specs.Choice.{pick}
-use Rattle.definitions.specs.Image.{kindOf, formOf, arraysOf, proceduresOf, headerWord, largestImage, modeOf, typeSort, Procedure, Image, procedureAt, noProcedure, guarded}
-use Rattle.definitions.specs.Reading.{Parse, got, readImage}
+use Rattle.definitions.specs.Image.{kindOf, formOf, arraysOf, proceduresOf, modeOf, typeSort, Procedure, Image}
+use Rattle.definitions.specs.Image.{procedureAt, noProcedure, guarded}
+use Rattle.definitions.specs.Reading.{readImage}
 use Rattle.definitions.specs.Encoding.{wordWith, proceduresWords, imageWords}
-use Rattle.definitions.specs.Compiling.{compiledProcedure, compiledProcedures, compiledImage, fitLocals, fits, written}
-use Rattle.opening.specs.Parses.{ok, got-ok, tree-of}
-use Rattle.opening.specs.Words.{and-left, and-right}
-use Rattle.opening.specs.WordLists.{Words}
-use Rattle.opening.specs.Images.{ImageWords, open-image}
+use Rattle.definitions.specs.Compiling.{compiledProcedures, compiledImage, fitLocals, fits, written}
+use Rattle.laws.specs.Parses.{ok}
 use Rattle.reader.specs.Tables.{Filled}
-use Rattle.signatures.specs.Signatures.{noImage, imageIn}
+use Rattle.laws.specs.ImageIn.{imageIn, proceduresIn, image-words, header-one, arrays-inside, procedures-limit}
+use Rattle.laws.specs.ImageIn.{slice-words}
 use Rattle.tape.specs.Tape.{Tape, write, writes}
 use Rattle.tape.specs.Laws.{writes-on, writes-app, place, place-far, whole}
 use Rattle.emission.specs.Callees.{calleesOf, callee-guarded, callee-sort}
-use Rattle.compiler.specs.Compile.{proceduresIn, Agrees, Sizing, sizing, eachOn, imageOn}
+use Rattle.compiler.specs.Compile.{Agrees, Sizing, sizing, eachOn, imageOn}
 use Rattle.compiler.specs.declared.Sized.{Sized}
-use Rattle.compiler.proofs.Rules.{words-part, words, procedure-begins}
-
-image-in : (image : List ℕ) (tree : Image) (n : ℕ) → readImage true image ≡ got tree n → imageIn image ≡ tree
-unfolding imageIn
-image-in image tree n q = tree-of noImage (readImage true image) tree n q
-
-image-words : (image : List ℕ) → ok (readImage true image) ≡ true → (n : ℕ) × ImageWords true image (imageIn image) n
-image-words image t =
-    let (tree, n, q) = got-ok (readImage true image) t in
-    (n, rw (image-in image tree n q) (open-image true image tree n q))
-
-few-procedures : (w : ℕ) → headerWord w ≡ true → (kindOf w ≡ 1) × (proceduresOf w ≤ 32)
-unfolding headerWord
-few-procedures w h = (
-  eqb-true _ _ (and-left (eqb (kindOf w) 1) _ h),
-  leb-true _ _ (and-right (leb 1 (proceduresOf w)) _ (and-right (leb (arraysOf w) 16) _ (and-right (ltb (formOf w) 2) _ (and-right (eqb (kindOf w) 1) _ h)))),
-)
+use Rattle.compiler.proofs.Rules.{words, procedure-begins}
 
 compiled-count : (ps : List Procedure) (arrays : List ℕ) (rest : List Procedure) → length (compiledProcedures ps arrays rest) ≡ length rest
 unfolding compiledProcedures
@@ -54,15 +37,10 @@ module _ (image : List ℕ) (t : ok (readImage true image) ≡ true) (s : imageI
   header-there = let (n, w) = image-words image t in let h = w .some in omega arith
 
   pub header-kind : kindOf (getD image 0 0) ≡ 1
-  header-kind = let (n, w) = image-words image t in few-procedures (getD image 0 0) (w .header) .0
+  header-kind = header-one (image-words image t .1)
 
   pub arrays-within : 1 + arraysOf (getD image 0 0) ≤ length image
-  arrays-within =
-      let (n, w) = image-words image t in
-      let h = w .some in
-      let a = w .arrays .words .after in
-      let k = w .arrays .words .within (omega arith) in
-      omega arith
+  arrays-within = arrays-inside (image-words image t .1)
 
   pub source-short : length image ≤ 4096
   source-short =
@@ -74,17 +52,18 @@ module _ (image : List ℕ) (t : ok (readImage true image) ≡ true) (s : imageI
   count-is = let (n, w) = image-words image t in sym (w .count)
 
   pub count-few : proceduresOf (getD image 0 0) ≤ 32
-  count-few = let (n, w) = image-words image t in few-procedures (getD image 0 0) (w .header) .1
+  count-few = procedures-limit (image-words image t .1)
 
   pub arrays-are : take (1 + arraysOf (getD image 0 0) - 1) (drop 1 image) ≡ imageIn image .arrays
-  arrays-are = let (n, w) = image-words image t in words-part image 1 (arraysOf (getD image 0 0)) _ _ (w .arrays .words) arrays-within
+  arrays-are = let (n, w) = image-words image t in slice-words image 1 (arraysOf (getD image 0 0)) _ _ (w .arrays .words) arrays-within
 
   header-is : getD image 0 0 + 65536
       ≡ wordWith 1 (1 * 65536 + length (imageIn image .arrays) * 256 + length (compiledProcedures (proceduresIn image) (imageIn image .arrays) (proceduresIn image)))
   header-is =
       let (n, w) = image-words image t in
       let f : formOf (getD image 0 0) ≡ 0 = sym (w .form) ∙ s in
-      let (k, m) = few-procedures (getD image 0 0) (w .header) in
+      let k = header-one w in
+      let m = procedures-limit w in
       let a = w .arrays .words .count in
       let c = w .count in
       let d = compiled-count (proceduresIn image) (imageIn image .arrays) (proceduresIn image) in

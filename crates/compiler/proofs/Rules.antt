@@ -1,44 +1,32 @@
 -- What the returns of the emission of procedures give, and what their calls ask. Assumes nothing.
-use Prim.Native.Nat.{ℕ, zero, suc, _+_, _*_, _-_, _/_, _%_, _≤_, _<_}
+use Prim.Native.Nat.{ℕ, suc, _+_, _-_, _≤_, _<_}
 use mathlib.Core.Bool.{Bool, true, false, _&&_}
-use mathlib.Core.List.{List, [], _∷_, _++_}
+use mathlib.Core.List.{List, [], _∷_, flatMap}
 use mathlib.Core.Path.{_≡_, refl, sym, ap, _∙_}
 use native.Mathlib.Omega.{arith}
 use native.Mathlib.Numerals.{add-one}
 use borrow.Author.Tests.{leb-true, leb-false, le-leb, lt-leb}
 use lib.Dec.{eqb, leb}
-use lib.ListN.{length, getD, take, drop, length-take, length-drop, drop-of-length-le}
-use lib.Seq.{ext-getD, getD-take, getD-drop, drop-cons}
+use lib.ListN.{length, getD, take, drop, drop-of-length-le}
+use lib.Seq.{drop-cons}
 use Rattle.definitions.specs.Choice.{pick}
-use Rattle.definitions.specs.Image.{modeOf, parametersOf, localsOf, largestLevel, Block, Procedure, Image, procedureAt, noProcedure, guarded}
-use Rattle.definitions.specs.Reading.{Parse, got, readBlock}
+use Rattle.definitions.specs.Image.{modeOf, parametersOf, localsOf, Procedure, procedureAt, noProcedure}
+use Rattle.definitions.specs.Reading.{got, readBlock}
 use Rattle.definitions.specs.Encoding.{procedureWords, proceduresWords}
 use Rattle.definitions.specs.Compiling.{compiledTypes, compiledBody, compiledProcedure, compiledProcedures, fitLocals}
-use Rattle.opening.specs.Procedures.{ProcedureWords, open-procedure}
-use Rattle.opening.specs.WordLists.{Words}
+use Rattle.laws.specs.ReadImages.{ProcedureWords, open-procedure}
 use Rattle.reader.specs.Tables.{Filled}
-use Rattle.signatures.specs.Signatures.{imageIn}
+use Rattle.laws.specs.ImageIn.{proceduresIn, slice-words, imageIn}
 use Rattle.tape.specs.Tape.{Tape, writes}
 use Rattle.tape.specs.Laws.{writes-nil, writes-app}
 use Rattle.contexts.specs.Fine.{FineBlock}
 use Rattle.contexts.specs.StatementParts.{fine-read-block}
 use Rattle.emission.specs.Callees.{calleesOf}
-use Rattle.procedures.specs.Procedures.{procedureFrom, Partial, part, procedureOn}
+use Rattle.procedures.specs.Procedures.{procedureFrom, Partial, procedureOn}
 use Rattle.procedures.specs.Agreement.{procedure-same}
 use Rattle.procedures.specs.declared.Part.{Part}
-use Rattle.compiler.specs.Compile.{proceduresIn, Agrees, Sizing, sizing, oneOn, eachOn, imageOn}
+use Rattle.compiler.specs.Compile.{Agrees, Sizing, sizing, oneOn, eachOn}
 use Rattle.compiler.specs.declared.Sized.{Sized}
-
--- words that were read are a part of the image
-pub words-part : (image : List ℕ) (at n : ℕ) (ws : List ℕ) (next : ℕ) → Words image at n ws next → at + n ≤ length image
-    → take (at + n - at) (drop at image) ≡ ws
-words-part image at n ws next w h =
-    let z : at + n - at ≡ n = omega arith in
-    let c = w .count in
-    let e : length (take n (drop at image)) ≡ n = simp (length-take, length-drop) (omega arith) in
-    ap (λ k. take k (drop at image)) z
-    ∙ ext-getD 0 (take n (drop at image)) ws (e ∙ sym c)
-    (λ i b. getD-take n (drop at image) i 0 (omega arith) ∙ getD-drop at image i 0 ∙ sym (w .word i (omega arith)))
 
 abbrev variables : ℕ → ℕ
 variables w = parametersOf w + localsOf w
@@ -59,7 +47,7 @@ same-from ps arrays q w result types a b c d = rw (a, b, c, d)
 
 module _ (image params places : List ℕ) (me : ℕ) (h : me < length (proceduresIn image)) (t : Filled 0 image params places (proceduresIn image))
     (p : ℕ) (e : p ≡ getD places me 0) where
-  pub words : (m : ℕ) × ProcedureWords 0 params me image p (procedureAt (proceduresIn image) me) m
+  pub words : (m : ℕ) × ProcedureWords image 0 params me p (procedureAt (proceduresIn image) me) m
   unfolding Filled
   words =
       let (m, r, c) = t me h in
@@ -78,7 +66,7 @@ module _ (image params places : List ℕ) (me : ℕ) (h : me < length (procedure
       omega arith
 
   types-are : take (p + 1 + 1 + variables (getD image p 0) - (p + 1 + 1)) (drop (p + 1 + 1) image) ≡ procedureAt (proceduresIn image) me .types
-  types-are = let (m, w) = words in words-part image (p + 1 + 1) (variables (getD image p 0)) _ _ (w .types) types-within
+  types-are = let (m, w) = words in slice-words image (p + 1 + 1) (variables (getD image p 0)) _ _ (w .types) types-within
 
   pub types-many : parametersOf (getD image p 0) ≤ length (take (p + 1 + 1 + variables (getD image p 0) - (p + 1 + 1)) (drop (p + 1 + 1) image))
   types-many = let (m, w) = words in let c = w .types .count in rw types-are (omega arith)
@@ -132,7 +120,7 @@ and-assoc false b c = refl
 
 module _ (ps : List Procedure) (arrays : List ℕ) (me : ℕ) (c : Sized) (out : List ℕ) (X : Sizing) (u : eachOn ps arrays (drop me ps) (c .fits) (c .o) out ≡ X) where
   pub each-done : (count : ℕ) → count ≡ length ps → count ≤ me → _≡_ {A = Sizing} (c, out) X
-  unfolding eachOn compiledProcedures proceduresWords fitLocals
+  unfolding flatMap eachOn compiledProcedures proceduresWords fitLocals
   each-done count e h =
       let z : drop me ps ≡ [] = drop-of-length-le ps {i = me} (omega arith) in
       ap (λ b. sizing b (c .o, out)) (sym (and-true (c .fits))) ∙ ap (λ (y : Tape). sizing (c .fits && true) y) (sym (writes-nil (c .o) out))
@@ -140,7 +128,7 @@ module _ (ps : List Procedure) (arrays : List ℕ) (me : ℕ) (c : Sized) (out :
 
   pub each-more : (count : ℕ) → count ≡ length ps → me < count → (r : Sized) (t1 : List ℕ) → _≡_ {A = Sizing} (r, t1) (oneOn ps arrays (procedureAt ps me) (c .o) out)
       → eachOn ps arrays (drop (me + 1) ps) (c .fits && r .fits) (r .o) t1 ≡ X
-  unfolding oneOn eachOn compiledProcedures proceduresWords fitLocals
+  unfolding flatMap oneOn eachOn compiledProcedures proceduresWords fitLocals
   each-more count e h r t1 g =
       let z : drop me ps ≡ procedureAt ps me ∷ drop (suc me) ps = drop-cons ps me noProcedure (omega arith) in
       let P = compiledProcedure ps arrays (procedureAt ps me) in

@@ -1,8 +1,8 @@
 -- What emitting procedures and images leaves: the place after them, whether their locals fit form 1, and their words on the tape.
 -- Assumes nothing.
-use Prim.Native.Nat.{ℕ, _+_, _-_, _≤_, _<_}
+use Prim.Native.Nat.{ℕ, _-_}
 use mathlib.Core.Path.{_≡_}
-use mathlib.Core.Bool.{Bool, true, false, _&&_}
+use mathlib.Core.Bool.{Bool, _&&_}
 use mathlib.Core.List.{List}
 use lib.Dec.{leb}
 use lib.ListN.{length}
@@ -11,11 +11,7 @@ use Rattle.definitions.specs.Encoding.{procedureWords, proceduresWords, imageWo
 use Rattle.definitions.specs.Compiling.{compiledProcedure, compiledProcedures, compiledImage, fitLocals}
 use Rattle.tape.specs.Tape.{Tape, writes}
 use Rattle.emission.specs.Callees.{calleesOf}
-use Rattle.signatures.specs.Signatures.{imageIn}
 use Rattle.compiler.specs.declared.Sized.{Sized}
-
-abbrev pub proceduresIn : List ℕ → List Procedure
-proceduresIn image = imageIn image .procedures
 
 -- the table of callees tells of every procedure its mode and the sort of its result
 pub record Agrees (cs : List ℕ) (ps : List Procedure) : Type 0 where

@@ -8,10 +8,10 @@ ghost use lib.ListN.{length, getD};
 ghost use Rattle.definitions.specs.Image.{procedureAt};
 ghost use Rattle.definitions.specs.Reading.{readImage};
 ghost use Rattle.definitions.specs.Compiling.{compiledImage, written};
-ghost use Rattle.opening.specs.Parses.{ok};
+ghost use Rattle.laws.specs.Parses.{ok};
 ghost use Rattle.reader.specs.Tables.{Filled};
-ghost use Rattle.signatures.specs.Signatures.{imageIn};
-ghost use Rattle.compiler.specs.Compile.{proceduresIn, Agrees, oneOn, eachOn, imageOn};
+ghost use Rattle.laws.specs.ImageIn.{imageIn, proceduresIn};
+ghost use Rattle.compiler.specs.Compile.{Agrees, oneOn, eachOn, imageOn};
 
 // The place after what was written, and whether the locals of all procedures so far fit form 1.
 pub struct Sized {

@@ -1,18 +1,20 @@
 -- What each return of the walk over a statement or a block gives, and what its calls ask. Assumes nothing.
-use Prim.Native.Nat.{ℕ, _+_, _-_, _/_, _%_, _≤_, _<_}
-use mathlib.Core.Bool.{Bool, true, false, _||_}
+use Prim.Native.Nat.{ℕ, _+_, _-_, _≤_, _<_}
+use mathlib.Core.Bool.{Bool, true, _||_}
 use mathlib.Core.List.{List}
-use mathlib.Core.Path.{_≡_, refl, sym, ap, _∙_}
+use mathlib.Core.Path.{_≡_, sym, ap, _∙_}
 use native.Mathlib.Omega.{arith}
 use lib.ListN.{length, getD}
-use Rattle.definitions.specs.Image.{payloadOf, opOf, targetOf, calledOf, resultOf, Expression, Statement, assign, store, conditional, loop, return, call, Block, done, step}
+use Rattle.definitions.specs.Image.{payloadOf, opOf, targetOf, calledOf, resultOf, Expression, Statement, assign, store}
+use Rattle.definitions.specs.Image.{conditional, loop, return, call, Block, sequence}
 use Rattle.definitions.specs.Reading.{Parse, got, refused, readExpression, readArguments, readStatement, readBlock}
-use Rattle.definitions.specs.Labels.{secretIn, rcAfter, rcAfterBlock}
-use Rattle.opening.specs.Parses.{ok, endOf, ok-of, end-of}
-use Rattle.opening.specs.Statements.{open-assign, open-store, open-if, open-for, open-return, open-last-op}
-use Rattle.contexts.specs.Fine.{FineExpression, FineTwo, FineStatement, FineBlock, argumentsLeft, statementsLeft}
-use Rattle.contexts.specs.StatementParts.{no-statement, first-statement, fine-statement, fine-statements, block-left, fine-then, fine-else, fine-body}
-use Rattle.contexts.specs.Context.{sight, passing, seen, seenTwo, passed, passedBlock}
+use Rattle.definitions.specs.Labels.{rcAfter, rcAfterBlock}
+use Rattle.laws.specs.Parses.{ok, endOf, end-of}
+use Rattle.laws.specs.StatementInversion.{open-assign, open-store, open-if, open-for, open-return, open-last-op}
+use Rattle.contexts.specs.Fine.{FineStatement, FineBlock, argumentsLeft, statementsLeft}
+use Rattle.contexts.specs.StatementParts.{no-statement, first-statement, fine-statement, fine-statements}
+use Rattle.contexts.specs.StatementParts.{block-left, fine-then, fine-else, fine-body}
+use Rattle.contexts.specs.Context.{passing, seen, seenTwo, passed, passedBlock}
 use Rattle.contexts.specs.declared.Seen.{Seen}
 use Rattle.contexts.specs.declared.Passed.{Passed}
 use Rattle.contexts.proofs.Sight.{seen-end, seen-next}
@@ -151,7 +153,7 @@ module _ (types arrays : List ℕ) (pc : Bool) (l : ℕ) (params : List ℕ) (me
             let (d, m, b, o, q, r, v) = first-statement (n - j) l params me image at t (omega arith) in go d m b o q r v
           where
             go : (d : Statement) (m : ℕ) (b : Block) (o : ℕ) → readStatement l params me image at ≡ got d m
-                → statementsLeft (n - j - 1) l params me image m ≡ got b o → statementsLeft (n - j) l params me image at ≡ got (step at d b) o
+                → statementsLeft (n - j - 1) l params me image m ≡ got b o → statementsLeft (n - j) l params me image at ≡ got (sequence at d b) o
                 → passedBlock types arrays pc (s .rc) (statementsLeft (n - (j + 1)) l params me image (s .next)) ≡ X
             go d m b o q r v =
                 let z : n - (j + 1) ≡ n - j - 1 = omega arith in

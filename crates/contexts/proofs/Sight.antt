@@ -1,16 +1,15 @@
 -- What each return of the walk over an expression gives, and what its calls ask. Assumes nothing.
-use Prim.Native.Nat.{ℕ, _+_, _-_, _/_, _%_, _≤_, _<_}
+use Prim.Native.Nat.{ℕ, _+_, _-_, _≤_}
 use mathlib.Core.Bool.{Bool, true, false, _||_}
 use mathlib.Core.List.{List}
-use mathlib.Core.Path.{_≡_, refl, sym, ap, _∙_}
-use borrow.Author.Tests.{eqb-true}
-use lib.Dec.{eqb}
+use mathlib.Core.Path.{_≡_, refl, ap, _∙_}
 use lib.ListN.{length, getD, List·getD-eq-default}
-use Rattle.definitions.specs.Image.{kindOf, payloadOf, typeSecret, arraySecret, Expression, constant, boolean, variable, cell, unary, binary, select}
+use Rattle.definitions.specs.Image.{kindOf, payloadOf, typeSecret, arraySecret, Expression, cell, unary, binary, select}
 use Rattle.definitions.specs.Reading.{Parse, got, refused, readExpression}
 use Rattle.definitions.specs.Labels.{secretIn}
-use Rattle.opening.specs.Parses.{ok, endOf, end-of}
-use Rattle.opening.specs.Expressions.{open-constant, open-raw, open-boolean, open-variable, open-cell, open-unary, open-binary, open-last-kind}
+use Rattle.laws.specs.Parses.{ok, endOf, end-of}
+use Rattle.laws.specs.ExpressionInversion.{open-constant, open-raw, open-boolean, open-variable, open-cell, open-unary}
+use Rattle.laws.specs.ExpressionInversion.{open-binary, open-last-kind}
 use Rattle.contexts.specs.Fine.{FineExpression, FineTwo}
 use Rattle.contexts.specs.Parts.{fine-values}
 use Rattle.contexts.specs.Context.{sight, seen, seenTwo}

@@ -2,10 +2,10 @@
 use Prim.Native.Nat.{ℕ, _+_, _-_, _≤_, _<_}
 use mathlib.Core.Bool.{true}
 use mathlib.Core.List.{List}
-use mathlib.Core.Path.{_≡_, refl, sym, ap, _∙_}
+use mathlib.Core.Path.{_≡_, sym, ap, _∙_}
 use native.Mathlib.Omega.{arith}
 use Rattle.definitions.specs.Reading.{readExpression}
-use Rattle.opening.specs.Parses.{ok, endOf, ok-of, end-of}
+use Rattle.laws.specs.Parses.{ok, endOf, end-of}
 use Rattle.contexts.specs.Fine.{FineExpression, argumentsLeft}
 use Rattle.contexts.specs.StatementParts.{no-argument, first-argument, fine-argument, fine-arguments}
 use Rattle.contexts.specs.Context.{seen}

@@ -7,7 +7,7 @@ use mathlib.Core.Path.{_≡_}
 use lib.ListN.{length}
 use Rattle.definitions.specs.Image.{Expression, Block}
 use Rattle.definitions.specs.Reading.{Parse, readExpression, readArguments, readStatement, readStatements, readBlock}
-use Rattle.opening.specs.Parses.{ok, endOf}
+use Rattle.laws.specs.Parses.{ok, endOf}
 
 abbrev pub FineExpression : ℕ → List ℕ → ℕ → Type 0
 FineExpression l image at = (1 ≤ l) × (at < length image) × (ok (readExpression l image at) ≡ true)

@@ -1,13 +1,14 @@
 -- The parts of an expression that was read were read too, each where the one before it ends. Assumes nothing.
-use Prim.Native.Nat.{ℕ, _+_, _-_, _/_, _%_, _≤_, _<_}
+use Prim.Native.Nat.{ℕ, _+_, _-_, _<_}
 use mathlib.Core.Bool.{true}
 use mathlib.Core.List.{List}
-use mathlib.Core.Path.{_≡_, refl, sym, ap, _∙_}
+use mathlib.Core.Path.{_≡_, ap, _∙_}
 use lib.ListN.{length, getD}
 use Rattle.definitions.specs.Image.{kindOf, Expression}
 use Rattle.definitions.specs.Reading.{got, readExpression}
-use Rattle.opening.specs.Parses.{ok, endOf, ok-of, end-of}
-use Rattle.opening.specs.Expressions.{open-expression, open-raw, open-cell, open-unary, open-binary, open-last-kind}
+use Rattle.laws.specs.Parses.{ok, endOf, ok-of, end-of}
+use Rattle.laws.specs.ExpressionInversion.{open-expression, open-raw, open-cell, open-unary, open-binary}
+use Rattle.laws.specs.ExpressionInversion.{open-last-kind}
 use Rattle.contexts.specs.Fine.{FineExpression, FineTwo}
 
 pub fine-expression : (l : ℕ) (image : List ℕ) (at : ℕ) → ok (readExpression l image at) ≡ true → FineExpression l image at

@@ -1,17 +1,18 @@
 -- The parts of a statement or a block that was read were read too, each where the one before it ends. Assumes nothing.
-use Prim.Native.Nat.{ℕ, zero, suc, _+_, _-_, _/_, _%_, _≤_, _<_}
+use Prim.Native.Nat.{ℕ, zero, suc, _+_, _-_, _≤_, _<_}
 use mathlib.Core.Bool.{true}
 use mathlib.Core.List.{List, [], _∷_}
-use mathlib.Core.Path.{_≡_, refl, sym, ap, _∙_}
+use mathlib.Core.Path.{_≡_, ap, _∙_}
 use native.Mathlib.Omega.{arith}
 use lib.ListN.{length, getD}
-use Rattle.definitions.specs.Image.{payloadOf, opOf, calledOf, Expression, Statement, Block, done, step}
-use Rattle.definitions.specs.Reading.{Parse, got, readExpression, readArguments, readStatement, readStatements, readBlock}
-use Rattle.opening.specs.Parses.{ok, endOf, ok-of, end-of}
-use Rattle.opening.specs.Expressions.{open-no-argument, open-argument}
-use Rattle.opening.specs.Statements.{open-statement, open-block, open-none, open-more, open-assign, open-store, open-if, open-for, open-return, open-last-op}
+use Rattle.definitions.specs.Image.{payloadOf, opOf, calledOf, Expression, Statement, Block, done, sequence}
+use Rattle.definitions.specs.Reading.{got, readExpression, readStatement, readBlock}
+use Rattle.laws.specs.Parses.{ok, endOf, ok-of, end-of}
+use Rattle.laws.specs.ExpressionInversion.{open-no-argument, open-argument}
+use Rattle.laws.specs.StatementInversion.{open-statement, open-block, open-none, open-more, open-assign, open-store}
+use Rattle.laws.specs.StatementInversion.{open-if, open-for, open-return, open-last-op}
 use Rattle.contexts.specs.Fine.{FineExpression, FineTwo, FineStatement, FineBlock, argumentsLeft, statementsLeft}
-use Rattle.contexts.specs.Parts.{fine-expression, fine-read, fine-two}
+use Rattle.contexts.specs.Parts.{fine-read, fine-two}
 
 -- ---- the values of a call that are left
 
@@ -43,7 +44,7 @@ no-statement l params me image at = open-none _ at
 pub first-statement : (n l : ℕ) (params : List ℕ) (me : ℕ) (image : List ℕ) (at : ℕ) → ok (statementsLeft n l params me image at) ≡ true → 0 < n
     → (s : Statement) × (m : ℕ) × (b : Block) × (o : ℕ)
     × (readStatement l params me image at ≡ got s m) × (statementsLeft (n - 1) l params me image m ≡ got b o)
-    × (statementsLeft n l params me image at ≡ got (step at s b) o)
+    × (statementsLeft n l params me image at ≡ got (sequence at s b) o)
 unfolding statementsLeft
 first-statement zero l params me image at t h = absurd (omega arith)
 first-statement (suc n) l params me image at t h =

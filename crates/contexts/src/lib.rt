@@ -4,7 +4,7 @@ ghost use mathlib.Core.Bool.{true};
 ghost use lib.ListN.{length, getD};
 ghost use Rattle.definitions.specs.Image.{typeSecret, arraySecret, opOf};
 ghost use Rattle.definitions.specs.Reading.{readExpression, readStatement, readBlock};
-ghost use Rattle.opening.specs.Parses.{ok, endOf};
+ghost use Rattle.laws.specs.Parses.{ok, endOf};
 ghost use Rattle.contexts.specs.Fine.{FineExpression, FineTwo, FineStatement, FineBlock, argumentsLeft, statementsLeft};
 ghost use Rattle.contexts.specs.Context.{seen, seenTwo, passed, passedBlock};
 

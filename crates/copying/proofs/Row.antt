@@ -1,15 +1,14 @@
 -- The rules of the loop that copies the values of a call. Assumes nothing.
 use Prim.Native.Nat.{ℕ, _+_, _-_, _≤_, _<_}
 use mathlib.Core.Bool.{true}
-use mathlib.Core.List.{List, [], _∷_, _++_}
-use mathlib.Core.Path.{_≡_, refl, sym, ap, _∙_}
+use mathlib.Core.List.{List, [], _∷_, flatMap}
+use mathlib.Core.Path.{_≡_, sym, ap, _∙_}
 use native.Mathlib.Omega.{arith}
-use Rattle.definitions.specs.Image.{Expression}
-use Rattle.definitions.specs.Reading.{Parse, got, refused, readExpression}
+use Rattle.definitions.specs.Reading.{readExpression}
 use Rattle.definitions.specs.Encoding.{expressionWords, argumentWords}
 use Rattle.definitions.specs.Compiling.{moved, movedAll}
-use Rattle.opening.specs.Parses.{ok, endOf, end-of}
-use Rattle.tape.specs.Tape.{Tape, writes}
+use Rattle.laws.specs.Parses.{ok}
+use Rattle.tape.specs.Tape.{Tape}
 use Rattle.tape.specs.Laws.{writes-nil, writes-app}
 use Rattle.contexts.specs.Fine.{FineExpression, argumentsLeft}
 use Rattle.contexts.specs.StatementParts.{no-argument, first-argument, fine-argument, fine-arguments}
@@ -26,7 +25,7 @@ module _ (first n l : ℕ) (image : List ℕ) where
 
   module _ (at j o : ℕ) (out : List ℕ) (X : Copied) (u : copiedArguments first o out (argumentsLeft (n - j) l image at) ≡ X) where
     pub row-done : n ≤ j → _≡_ {A = Copied} (record { at = at; o = o }, out) X
-    unfolding movedAll argumentWords
+    unfolding movedAll argumentWords flatMap
     row-done h =
         let z : n - j ≡ 0 = omega arith in
         ap (λ (y : Tape). spot at y) (sym (writes-nil o out))
@@ -34,7 +33,7 @@ module _ (first n l : ℕ) (image : List ℕ) where
 
     pub row-more : (e : Spot) (t1 : List ℕ) → ok (argumentsLeft (n - j) l image at) ≡ true → j < n → _≡_ {A = Copied} (e, t1) (copied first o out (readExpression l image at))
         → copiedArguments first (e .o) t1 (argumentsLeft (n - (j + 1)) l image (e .at)) ≡ X
-    unfolding movedAll argumentWords
+    unfolding movedAll argumentWords flatMap
     row-more e t1 t h g =
         let z : n - (j + 1) ≡ n - j - 1 = omega arith in
         let (f, m, es, p, q, r, s) = first-argument (n - j) l image at t (omega arith) in

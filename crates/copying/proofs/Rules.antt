@@ -1,21 +1,20 @@
 -- What each return of the copying of an expression gives, and what its calls ask. Assumes nothing.
-use Prim.Native.Nat.{ℕ, _+_, _*_, _-_, _/_, _%_, _≤_, _<_}
-use mathlib.Core.Bool.{Bool, true, false}
+use Prim.Native.Nat.{ℕ, _+_, _-_, _≤_, _<_}
+use mathlib.Core.Bool.{true}
 use mathlib.Core.List.{List, [], _∷_, _++_}
-use mathlib.Core.Path.{_≡_, refl, sym, ap, _∙_}
+use mathlib.Core.Path.{_≡_, sym, ap, _∙_}
 use native.Mathlib.Omega.{arith}
 use borrow.Author.Tests.{lt-ltb, le-ltb, leb-true}
-use lib.Dec.{ltb, leb}
-use lib.ListN.{length, getD}
-use Rattle.definitions.specs.Choice.{pick}
-use Rattle.definitions.specs.Image.{kindOf, payloadOf, rawWord, Expression, constant, boolean, variable, cell, unary, binary, select}
-use Rattle.definitions.specs.Reading.{Parse, got, refused, readExpression}
+use lib.ListN.{getD}
+use Rattle.definitions.specs.Image.{kindOf, payloadOf, rawWord, Expression}
+use Rattle.definitions.specs.Reading.{Parse, got, readExpression}
 use Rattle.definitions.specs.Encoding.{wordWith, expressionWords}
 use Rattle.definitions.specs.Compiling.{renamed, moved}
-use Rattle.opening.specs.Parses.{ok, endOf, end-of}
-use Rattle.opening.specs.Expressions.{open-constant, open-raw, open-boolean, open-variable, open-cell, open-unary, open-binary, open-select, last-kind}
+use Rattle.laws.specs.Parses.{ok, endOf, end-of}
+use Rattle.laws.specs.ExpressionInversion.{open-constant, open-raw, open-boolean, open-variable, open-cell, open-unary}
+use Rattle.laws.specs.ExpressionInversion.{open-binary, open-select}
 use Rattle.tape.specs.Tape.{Tape, write, writes}
-use Rattle.tape.specs.Laws.{writes-nil, writes-on, writes-one, writes-app}
+use Rattle.tape.specs.Laws.{writes-on, writes-one, writes-app}
 use Rattle.contexts.specs.Fine.{FineExpression, FineTwo}
 use Rattle.contexts.specs.Parts.{fine-read, fine-two}
 use Rattle.copying.specs.Copy.{Copied, spot, copied, copiedTwo}

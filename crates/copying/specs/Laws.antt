@@ -1,14 +1,14 @@
 -- Where a copied expression ends, and copies in a row. Assumes nothing.
 use Prim.Native.Nat.{ℕ}
-use mathlib.Core.List.{List, [], _∷_, _++_}
+use mathlib.Core.List.{List, _∷_, _++_}
 use mathlib.Core.Path.{_≡_, refl, sym, ap, _∙_}
 use Rattle.definitions.specs.Image.{Expression}
 use Rattle.definitions.specs.Reading.{Parse, got, refused}
 use Rattle.definitions.specs.Encoding.{expressionWords, argumentWords}
 use Rattle.definitions.specs.Compiling.{moved, movedAll}
-use Rattle.opening.specs.Parses.{endOf, end-of}
+use Rattle.laws.specs.Parses.{endOf}
 use Rattle.tape.specs.Tape.{Tape, write, writes}
-use Rattle.tape.specs.Laws.{writes-nil, writes-on, writes-app}
+use Rattle.tape.specs.Laws.{writes-on, writes-app}
 use Rattle.copying.specs.Copy.{Copied, spot, copied, copiedTwo, copiedArguments}
 use Rattle.copying.specs.declared.Spot.{Spot}
 

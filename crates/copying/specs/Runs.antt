@@ -1,9 +1,9 @@
 -- Runs of words written one after the other by several calls: each law joins what two calls wrote. Assumes nothing.
 use Prim.Native.Nat.{ℕ}
 use mathlib.Core.List.{List, [], _∷_, _++_}
-use mathlib.Core.Path.{_≡_, refl, sym, ap, _∙_}
+use mathlib.Core.Path.{_≡_, sym, ap, _∙_}
 use Rattle.tape.specs.Tape.{Tape, write, writes}
-use Rattle.tape.specs.Laws.{writes-nil, writes-on, writes-one, writes-app}
+use Rattle.tape.specs.Laws.{writes-on, writes-one, writes-app}
 use Rattle.copying.specs.Copy.{Copied, spot}
 use Rattle.copying.specs.declared.Spot.{Spot}
 

@@ -6,7 +6,7 @@ ghost use lib.ListN.{length, getD};
 ghost use Rattle.definitions.specs.Image.{kindOf};
 ghost use Rattle.definitions.specs.Reading.{readExpression};
 ghost use Rattle.definitions.specs.Compiling.{renamed};
-ghost use Rattle.opening.specs.Parses.{ok, endOf};
+ghost use Rattle.laws.specs.Parses.{ok, endOf};
 ghost use Rattle.tape.specs.Tape.{write};
 ghost use Rattle.contexts.specs.Fine.{FineExpression, FineTwo, argumentsLeft};
 ghost use Rattle.copying.specs.Copy.{spot, copied, copiedTwo, copiedArguments};

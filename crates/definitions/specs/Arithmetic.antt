@@ -1,7 +1,6 @@
 -- The arithmetic of words and booleans. A word is a number below 2 ^ 32; a boolean is 0 for false and 1 for true.
--- Assumes nothing.
 use Prim.Native.Nat.{ℕ, _+_, _-_, _*_, _/_, _%_, _^_}
-use lib.Bits.{bitAnd, bitOr, bitXor}
+use lib.Bits.{bitOr}
 use lib.Dec.{eqb, ltb}
 use Rattle.definitions.specs.Choice.{pick}
 
@@ -14,16 +13,6 @@ subtract a b = (a + 2 ^ 32 - b) % 2 ^ 32
 
 abbrev pub multiply : ℕ → ℕ → ℕ
 multiply a b = (a * b) % 2 ^ 32
-
--- "3 and, 4 or, 5 xor": bit by bit
-abbrev pub bitwiseAnd : ℕ → ℕ → ℕ
-bitwiseAnd a b = bitAnd a b
-
-abbrev pub bitwiseOr : ℕ → ℕ → ℕ
-bitwiseOr a b = bitOr a b
-
-abbrev pub bitwiseXor : ℕ → ℕ → ℕ
-bitwiseXor a b = bitXor a b
 
 -- "6 shift left, 7 shift right, 8 rotate left (counts modulo 32)"
 abbrev pub shiftLeft : ℕ → ℕ → ℕ
@@ -43,7 +32,7 @@ quotient a b = a / b
 abbrev pub remainder : ℕ → ℕ → ℕ
 remainder a b = a % b
 
--- "Arguments for booleans: 0 false, else true"
+-- "boolean as word", "0 false, else true": 0 for 0, 1 for any other number
 abbrev pub truth : ℕ → ℕ
 truth a = pick (eqb a 0) 0 1
 
@@ -61,9 +50,10 @@ logicalAnd a b = pick (eqb a 0) 0 (truth b)
 abbrev pub logicalOr : ℕ → ℕ → ℕ
 logicalOr a b = pick (eqb a 0) (truth b) 1
 
--- "C unary: 0 not, 1 complement": each bit of a word turned
+-- "0 not", of a boolean
 abbrev pub logicalNot : ℕ → ℕ
 logicalNot a = pick (eqb a 0) 1 0
 
+-- "1 complement", of a word: each of its 32 bits turned
 abbrev pub complement : ℕ → ℕ
-complement a = 4294967295 - a
+complement a = 0xFFFFFFFF - a

@@ -1,5 +1,4 @@
 -- Words and bytes: "byte slices, four bytes a word, most significant first".
--- Assumes nothing.
 use mathlib.Core.List.{List, [], _∷_, _++_}
 use Prim.Native.Nat.{ℕ, _+_, _*_, _/_, _%_, _^_}
 use lib.ListN.{length, getD, drop}
@@ -10,7 +9,8 @@ joined a b c d = ((a * 256 + b) * 256 + c) * 256 + d
 
 -- the word at an index, counted in words
 abbrev pub wordAt : List ℕ → ℕ → ℕ
-wordAt bytes i = joined (getD bytes (4 * i) 0) (getD bytes (4 * i + 1) 0) (getD bytes (4 * i + 2) 0) (getD bytes (4 * i + 3) 0)
+wordAt bytes i =
+    joined (getD bytes (4 * i) 0) (getD bytes (4 * i + 1) 0) (getD bytes (4 * i + 2) 0) (getD bytes (4 * i + 3) 0)
 
 -- "Bytes left over after the last whole word are ignored"
 unfoldable pub wordsOf : List ℕ → List ℕ

@@ -1,8 +1,8 @@
--- Document 01: the checker's answer to an image. Reading comes first, then 6 to 8, then 9 to 13, each group with its least fault.
--- Assumes nothing.
+-- Document 01: which images are admitted, and the checker's answer. Reading comes first, then 6 to 8, then 9 to 13,
+-- each group with its least fault.
+use mathlib.Core.Bool.{Bool}
+use mathlib.Core.List.{List}
 use Prim.Native.Nat.{ℕ}
-use mathlib.Core.Bool.{Bool, true, false}
-use mathlib.Core.List.{List, []}
 use lib.Dec.{eqb}
 use Rattle.definitions.specs.Choice.{pick}
 use Rattle.definitions.specs.declared.Fault.{Fault}
@@ -16,14 +16,23 @@ use Rattle.definitions.specs.Labels.{imageLabelFaults}
 
 -- the lowest fault of an image that was read: of 6 to 8, and where there is none of 9 to 13
 unfoldable pub faultOf : Image → Fault
-faultOf image =
-    pick (eqb (least noFault (imageSortFaults image) .number) 0) (least noFault (imageLabelFaults image)) (least noFault (imageSortFaults image))
+faultOf image = pick (eqb (least noFault (imageSortFaults image) .number) 0)
+    (least noFault (imageLabelFaults image)) (least noFault (imageSortFaults image))
 
--- an image that was read, judged by its lowest fault
-unfoldable pub judged : Parse Image → Checked
-judged (got image n) = pick (eqb (faultOf image .number) 0) Accepted (Refused (faultOf image .number) (faultOf image .place))
-judged (refused n p) = Refused n p
+-- what was read, where it has no fault; else the refusal by its lowest fault
+unfoldable pub withoutFault : Parse Image → Parse Image
+withoutFault (refused n p) = refused n p
+withoutFault (got image n) =
+    pick (eqb (faultOf image .number) 0) (got image n) (refused (faultOf image .number) (faultOf image .place))
 
--- The checker's answer: accepted, or document 01's number and place.
+-- The image that words spell, where the rules admit it; else document 01's number and place.
+unfoldable pub admitted : Bool → List ℕ → Parse Image
+admitted whole words = withoutFault (readImage whole words)
+
+unfoldable pub verdict : Parse Image → Checked
+verdict (got image n) = Accepted
+verdict (refused n p) = Refused n p
+
+-- The checker's answer.
 unfoldable pub checked : Bool → List ℕ → Checked
-checked whole image = judged (readImage whole image)
+checked whole words = verdict (admitted whole words)

@@ -1,4 +1,4 @@
--- A choice between two values by a test. Assumes nothing.
+-- A choice between two values by a test.
 use mathlib.Core.Bool.{Bool, true, false}
 
 -- the first value where the test is true, else the second

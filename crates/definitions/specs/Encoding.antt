@@ -1,11 +1,12 @@
--- Document 01, "Image words": the words that spell a tree. Places in the tree are passed over. Assumes nothing.
-use Prim.Native.Nat.{ℕ, zero, suc, _+_, _*_, _-_}
-use mathlib.Core.Bool.{Bool, true, false}
-use mathlib.Core.List.{List, [], _∷_, _++_}
+-- Document 01, "Image words": the words that spell a tree. Places in the tree are passed over.
+use Prim.Native.Nat.{ℕ, _+_, _*_, _-_}
+use mathlib.Core.List.{List, [], _∷_, _++_, flatMap}
 use lib.Dec.{ltb}
 use lib.ListN.{length}
 use Rattle.definitions.specs.Choice.{pick}
-use Rattle.definitions.specs.Image.{Expression, constant, boolean, variable, cell, unary, binary, select, Statement, assign, store, conditional, loop, return, call, Block, done, step, Procedure, Image}
+use Rattle.definitions.specs.Image.{Expression, constant, boolean, variable, cell, unary, binary, select}
+use Rattle.definitions.specs.Image.{Statement, assign, store, conditional, loop, return, call, Block, done}
+use Rattle.definitions.specs.Image.{sequence, Procedure, Image}
 
 -- "kind in the top 4 bits (one hexadecimal digit), payload in the other 28"
 abbrev pub wordWith : ℕ → ℕ → ℕ
@@ -26,13 +27,12 @@ expressionWords (binary p o e f) = wordWith 13 o ∷ (expressionWords e ++ expre
 expressionWords (select p c e f) = wordWith 14 0 ∷ (expressionWords c ++ (expressionWords e ++ expressionWords f))
 
 unfoldable pub argumentWords : List Expression → List ℕ
-argumentWords [] = []
-argumentWords (e ∷ es) = expressionWords e ++ argumentWords es
+argumentWords es = flatMap expressionWords es
 
 -- the number of statements of a block
 unfoldable pub statementCount : Block → ℕ
 statementCount done = 0
-statementCount (step p s b) = 1 + statementCount b
+statementCount (sequence p s b) = 1 + statementCount b
 
 -- "6, statement: op × 65536 + q."
 abbrev pub statementWordWith : ℕ → ℕ → ℕ
@@ -43,31 +43,31 @@ unfoldable mutual
   pub statementWords : Statement → List ℕ
   statementWords (assign x e) = statementWordWith 0 x ∷ expressionWords e
   statementWords (store a i e) = statementWordWith 1 a ∷ (expressionWords i ++ expressionWords e)
-  statementWords (conditional c a b) =
-      statementWordWith 2 0 ∷ (expressionWords c ++ ((wordWith 5 (statementCount a) ∷ statementsWords a) ++ (wordWith 5 (statementCount b) ∷ statementsWords b)))
-  statementWords (loop x f t b) =
-      statementWordWith 3 x ∷ (expressionWords f ++ (expressionWords t ++ (wordWith 5 (statementCount b) ∷ statementsWords b)))
+  statementWords (conditional c a b) = statementWordWith 2 0
+      ∷ (expressionWords c
+      ++ ((wordWith 5 (statementCount a) ∷ statementsWords a) ++ (wordWith 5 (statementCount b) ∷ statementsWords b)))
+  statementWords (loop x f t b) = statementWordWith 3 x
+      ∷ (expressionWords f ++ (expressionWords t ++ (wordWith 5 (statementCount b) ∷ statementsWords b)))
   statementWords (return e) = statementWordWith 4 0 ∷ expressionWords e
   statementWords (call f x es) = statementWordWith 5 (f * 256 + x) ∷ argumentWords es
 
   pub statementsWords : Block → List ℕ
   statementsWords done = []
-  statementsWords (step p s b) = statementWords s ++ statementsWords b
+  statementsWords (sequence p s b) = statementWords s ++ statementsWords b
 
 unfoldable pub blockWords : Block → List ℕ
 blockWords b = wordWith 5 (statementCount b) ∷ statementsWords b
 
--- "3 starts a procedure: mode × 65536 + parameters × 256 + locals"; "Result, parameters, locals; then the body, a block."
+-- "3 starts a procedure: mode × 65536 + parameters × 256 + locals"; "Result, parameters, locals; then the body, a
+-- block."
 unfoldable pub procedureWords : Procedure → List ℕ
-procedureWords p =
-    wordWith 3 (p .mode * 65536 + p .parameters * 256 + (length (p .types) - p .parameters)) ∷ p .result ∷ (p .types ++ blockWords (p .body))
+procedureWords p = wordWith 3 (p .mode * 65536 + p .parameters * 256 + (length (p .types) - p .parameters))
+    ∷ p .result ∷ (p .types ++ blockWords (p .body))
 
 unfoldable pub proceduresWords : List Procedure → List ℕ
-proceduresWords [] = []
-proceduresWords (p ∷ ps) = procedureWords p ++ proceduresWords ps
+proceduresWords ps = flatMap procedureWords ps
 
 -- "1: header, form × 65536 + arrays × 256 + procedures."
 unfoldable pub imageWords : Image → List ℕ
-imageWords image =
-    wordWith 1 (image .form * 65536 + length (image .arrays) * 256 + length (image .procedures))
+imageWords image = wordWith 1 (image .form * 65536 + length (image .arrays) * 256 + length (image .procedures))
     ∷ (image .arrays ++ proceduresWords (image .procedures))

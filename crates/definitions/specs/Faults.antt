@@ -1,7 +1,7 @@
--- Document 01, "From the image or request": of the faults of one group, "each later group takes the lowest place. On one word the lowest number wins."
--- Assumes nothing.
+-- Document 01, "From the image or request": of the faults of one group, "each later group takes the lowest place. On
+-- one word the lowest number wins."
 use Prim.Native.Nat.{ℕ}
-use mathlib.Core.Bool.{Bool, true, false, _&&_, _||_, not}
+use mathlib.Core.Bool.{Bool, _&&_, _||_, not}
 use mathlib.Core.List.{List, [], _∷_}
 use lib.Dec.{ltb, eqb}
 use Rattle.definitions.specs.Choice.{pick}
@@ -14,14 +14,14 @@ fault n p = record { number = n; place = p }
 abbrev pub noFault : Fault
 noFault = fault 0 0
 
--- whether the second fault goes before the first: there is one, and it has the lower place, or on one word the lower number
+-- whether the first goes before the second: it is a fault, and the second is none, or has a higher place, or on the
+-- same word a higher number
 abbrev pub before : Fault → Fault → Bool
-before a b =
-    not (eqb (b .number) 0)
-    && (eqb (a .number) 0 || (ltb (b .place) (a .place) || eqb (b .place) (a .place) && ltb (b .number) (a .number)))
+before a b = not (eqb (a .number) 0)
+    && (eqb (b .number) 0 || (ltb (a .place) (b .place) || eqb (a .place) (b .place) && ltb (a .number) (b .number)))
 
 abbrev pub lower : Fault → Fault → Fault
-lower a b = pick (before a b) b a
+lower a b = pick (before b a) b a
 
 -- the lowest of a fault and a list of them
 unfoldable pub least : Fault → List Fault → Fault

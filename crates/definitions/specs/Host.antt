@@ -1,14 +1,13 @@
--- Document 01, "The machine": "A C host drives it with numbers and byte slices, four bytes a word, most significant first."
--- Each request on lent bytes: its answer, and what each lent slice that it may write holds afterwards.
--- "Bytes left over after the last whole word are ignored, except in an image."
--- Assumes nothing.
-use Prim.Native.Nat.{ℕ, _+_, _*_, _/_, _%_, _^_}
-use mathlib.Core.Bool.{Bool, true, false}
-use mathlib.Core.List.{List, [], _∷_, _++_}
+-- Document 01, "The machine": "A C host drives it with numbers and byte slices, four bytes a word, most significant
+-- first." Each request on lent bytes: its answer, and what each lent slice that it may write holds afterwards. "Bytes
+-- left over after the last whole word are ignored, except in an image."
+use Prim.Native.Nat.{ℕ, _/_, _%_, _^_}
+use mathlib.Core.Bool.{Bool}
+use mathlib.Core.List.{List, [], _∷_}
 use lib.Dec.{eqb, leb}
-use lib.ListN.{length, drop}
+use lib.ListN.{length}
 use Rattle.definitions.specs.Choice.{pick}
-use Rattle.definitions.specs.Bytes.{wordsOf, bytesOf, lent}
+use Rattle.definitions.specs.Bytes.{wordsOf, lent}
 use Rattle.definitions.specs.declared.Answer.{Answer}
 use Rattle.definitions.specs.declared.Answer.the-variants.{Done, Stopped, Refused}
 use Rattle.definitions.specs.declared.Checked.{Checked}
@@ -42,7 +41,8 @@ peekBytes image cells a i = onCells cells (peek (wholeWords image) (wordsOf imag
 -- "later trace words untouched"
 unfoldable pub callBytes : List ℕ → List ℕ → ℕ → List ℕ → ℕ → List ℕ → Answer × List ℕ × List ℕ
 callBytes image cells f arguments budget trace =
-    let r : Called = call (wholeWords image) (wordsOf image) (wordsOf cells) f (wordsOf arguments) budget (length (wordsOf trace)) in
+    let r : Called =
+    call (wholeWords image) (wordsOf image) (wordsOf cells) f (wordsOf arguments) budget (length (wordsOf trace)) in
     (r .0, lent cells (r .1), lent trace (r .2))
 
 unfoldable pub checkBytes : List ℕ → Checked
@@ -53,10 +53,11 @@ compileBytes image out =
     let r : Compiled × List ℕ = compiled (wholeWords image) (wordsOf image) (wordsOf out) in
     (r .0, lent out (r .1))
 
--- One layout for every answer: 0 done, 1 stopped, 2 refused; number; place; result; steps; the number of trace words recorded, or of words
--- written by the compiler, as two words, the high one first.
+-- One layout for every answer: 0 done, 1 stopped, 2 refused; number; place; result; steps; the number of trace words
+-- recorded, or of words written by the compiler, as two words, the high one first.
 abbrev pub layout : ℕ → ℕ → ℕ → ℕ → ℕ → ℕ → List ℕ
-layout status number place result steps count = status ∷ number ∷ place ∷ result ∷ steps ∷ count / 2 ^ 32 ∷ count % 2 ^ 32 ∷ []
+layout status number place result steps count =
+    status ∷ number ∷ place ∷ result ∷ steps ∷ count / 2 ^ 32 ∷ count % 2 ^ 32 ∷ []
 
 unfoldable pub answerWords : Answer → List ℕ
 answerWords (Done v z n) = layout 0 0 0 v z n
@@ -71,6 +72,7 @@ unfoldable pub compiledWords : Compiled → List ℕ
 compiledWords (Written n) = layout 0 0 0 0 0 n
 compiledWords (CompileRefused k p) = layout 2 k p 0 0 0
 
--- what the slice that is lent for the answer holds afterwards: the seven words where there is room for them, else what it held
+-- what the slice that is lent for the answer holds afterwards: the seven words where there is room for them, else what
+-- it held
 unfoldable pub answerBytes : List ℕ → List ℕ → List ℕ
 answerBytes slice words = pick (leb 28 (length slice)) (lent slice words) slice

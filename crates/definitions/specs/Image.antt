@@ -1,11 +1,10 @@
 -- Document 01, "Image words": the words' fields, the limits by form, and the tree that an image's words spell.
 -- Each word that a refusal, a stop or a trace entry can name has its place in the tree: its index in the image.
--- Assumes nothing.
-use Prim.Native.Nat.{ℕ, zero, suc, _+_, _*_, _/_, _%_, _-_}
-use mathlib.Core.Bool.{Bool, true, false, _&&_, _||_, not}
+use Prim.Native.Nat.{ℕ, zero, suc, _+_, _/_, _%_}
+use mathlib.Core.Bool.{Bool, _&&_, _||_}
 use mathlib.Core.List.{List, [], _∷_}
 use lib.Dec.{ltb, leb, eqb}
-use lib.ListN.{length, getD}
+use lib.ListN.{getD}
 use Rattle.definitions.specs.Choice.{pick}
 
 -- "kind in the top 4 bits (one hexadecimal digit), payload in the other 28"
@@ -27,7 +26,9 @@ proceduresOf w = payloadOf w % 256
 
 -- "Form 0 source, 1 compiled; 0 to 16 arrays; 1 to 32 procedures."
 unfoldable pub headerWord : ℕ → Bool
-headerWord w = eqb (kindOf w) 1 && (ltb (formOf w) 2 && (leb (arraysOf w) 16 && (leb 1 (proceduresOf w) && leb (proceduresOf w) 32)))
+headerWord w =
+    eqb (kindOf w) 1
+    && (ltb (formOf w) 2 && (leb (arraysOf w) 16 && (leb 1 (proceduresOf w) && leb (proceduresOf w) 32)))
 
 -- "Largest image 4,096 and 16,384 words."
 abbrev pub largestImage : ℕ → ℕ
@@ -37,17 +38,19 @@ largestImage form = pick (eqb form 0) 4096 16384
 abbrev pub largestLevel : ℕ → ℕ
 largestLevel form = pick (eqb form 0) 32 40
 
--- "2, one per array: label × 65536 + length. Label 0 public, 1 secret. Length 1 to 256, all together at most 1,024 cells."
+-- "2, one per array: label × 65536 + length. Label 0 public, 1 secret."
 abbrev pub arraySecret : ℕ → Bool
 arraySecret w = eqb (payloadOf w / 65536) 1
 
 abbrev pub arrayLength : ℕ → ℕ
 arrayLength w = w % 65536
 
--- an array word, where the arrays before it have the given number of cells
+-- "Length 1 to 256, all together at most 1,024 cells": the arrays before have the given number of cells
 unfoldable pub arrayWord : ℕ → ℕ → Bool
 arrayWord cells w =
-    eqb (kindOf w) 2 && (ltb (payloadOf w / 65536) 2 && (leb 1 (arrayLength w) && (leb (arrayLength w) 256 && leb (cells + arrayLength w) 1024)))
+    eqb (kindOf w) 2
+    && (ltb (payloadOf w / 65536) 2
+    && (leb 1 (arrayLength w) && (leb (arrayLength w) 256 && leb (cells + arrayLength w) 1024)))
 
 -- "3 starts a procedure: mode × 65536 + parameters × 256 + locals. Mode 0 open, 1 guarded (form 0 only)."
 abbrev pub modeOf : ℕ → ℕ
@@ -62,7 +65,9 @@ localsOf w = payloadOf w % 256
 -- "At most 8 parameters and 64 locals in form 0, 9 and 246 in form 1."
 unfoldable pub procedureWord : ℕ → ℕ → Bool
 procedureWord form w =
-    eqb (kindOf w) 3 && (leb (modeOf w + form) 1 && (leb (parametersOf w) (8 + form) && leb (localsOf w) (pick (eqb form 0) 64 246)))
+    eqb (kindOf w) 3
+    && (leb (modeOf w + form) 1
+    && (leb (parametersOf w) (8 + form) && leb (localsOf w) (pick (eqb form 0) 64 246)))
 
 -- "4, type: sort × 2 + label; sort 0 word, 1 boolean."
 unfoldable pub typeWord : ℕ → Bool
@@ -92,8 +97,8 @@ calledOf w = targetOf w / 256
 abbrev pub resultOf : ℕ → ℕ
 resultOf w = w % 256
 
--- "0 assign .. 1 store .. 2 if (q 0) .. 3 for .. 4 return (q 0) .. 5 call .. only a lower-numbered procedure, else 2 at the call",
--- in the body of the procedure numbered `me`
+-- "0 assign .. 1 store .. 2 if (q 0) .. 3 for .. 4 return (q 0) .. 5 call .. only a lower-numbered procedure, else 2 at
+-- the call", in the body of the procedure numbered `me`
 unfoldable pub statementWord : ℕ → ℕ → Bool
 statementWord me w =
     eqb (kindOf w) 6
@@ -103,8 +108,8 @@ statementWord me w =
     || (eqb (opOf w) 4 && eqb (targetOf w) 0
     || eqb (opOf w) 5 && ltb (calledOf w) me))))
 
--- "7: constant below 2^28. 8 (payload 0): the next word is a raw constant .. 9: boolean 0 or 1. A: variable. B: array, then index.
--- C unary: 0 not, 1 complement, 2 boolean as word. D binary. E (payload 0) select"; fifteen binary operators
+-- "7: constant below 2^28. 8 (payload 0): the next word is a raw constant .. 9: boolean 0 or 1. A: variable. B: array,
+-- then index. C unary: 0 not, 1 complement, 2 boolean as word. D binary. E (payload 0) select"; fifteen binary operators
 unfoldable pub expressionWord : ℕ → Bool
 expressionWord w =
     eqb (kindOf w) 7
@@ -166,10 +171,10 @@ mutual
   -- statements in order, each behind the place of its word
   pub data Block : Type 0 where
     done : Block
-    step : ℕ → Statement → Block → Block
+    sequence : ℕ → Statement → Block → Block
 
--- A procedure: the place of its word, its mode (0 open, 1 guarded), the number of its parameters, its result's type word,
--- the type words of its parameters and then its locals, its body.
+-- A procedure: the place of its word, its mode (0 open, 1 guarded), the number of its parameters, its result's type
+-- word, the type words of its parameters and then its locals, its body.
 pub record Procedure : Type 0 where
   pub place : ℕ
   pub mode : ℕ

@@ -1,9 +1,13 @@
 -- "Binary operators, in a fixed table of sorts", and what each operator computes.
--- Assumes nothing.
 use mathlib.Core.List.{List, [], _∷_}
+use mathlib.Core.Bool.{Bool}
 use Prim.Native.Nat.{ℕ}
+use lib.Bits.{bitAnd, bitOr, bitXor}
+use lib.Dec.{eqb, leb}
 use lib.ListN.{getD}
-use Rattle.definitions.specs.Arithmetic.{add, subtract, multiply, bitwiseAnd, bitwiseOr, bitwiseXor, shiftLeft, shiftRight, rotateLeft, quotient, remainder, equal, less, logicalAnd, logicalOr, logicalNot, complement, truth}
+use Rattle.definitions.specs.Arithmetic.{add, subtract, multiply, shiftLeft, shiftRight, rotateLeft, quotient}
+use Rattle.definitions.specs.Arithmetic.{remainder, equal, less, logicalAnd, logicalOr, logicalNot, complement}
+use Rattle.definitions.specs.Arithmetic.{truth}
 
 -- "sort 0 word, 1 boolean"
 abbrev pub wordSort : ℕ
@@ -12,12 +16,13 @@ wordSort = 0
 abbrev pub booleanSort : ℕ
 booleanSort = 1
 
--- "Indices, loop bounds, shift counts and both sides of a division are public": which operands of an operator have to be
+-- "shift counts and both sides of a division are public": which operands of an operator have to be, the right one being
+-- a shift's count
 abbrev pub neither : ℕ
 neither = 0
 
-abbrev pub count : ℕ
-count = 1
+abbrev pub right : ℕ
+right = 1
 
 abbrev pub both : ℕ
 both = 2
@@ -32,12 +37,12 @@ abbrev pub row : ℕ → ℕ → ℕ → Row
 row o r p = record { operands = o; result = r; publics = p }
 
 -- "0 add, 1 subtract, 2 multiply (modulo 2^32), 3 and, 4 or, 5 xor, 6 shift left, 7 shift right, 8 rotate left (counts
--- modulo 32), 9 quotient, 10 remainder: words to word. 11 equal, 12 less (unsigned): words to boolean. 13 and, 14 or: booleans."
+-- modulo 32), 9 quotient, 10 remainder: words to word. 11 equal, 12 less (unsigned): words to boolean. 13 and, 14 or:
+-- booleans."
 abbrev pub operators : List Row
-operators =
-    row wordSort wordSort neither ∷ row wordSort wordSort neither ∷ row wordSort wordSort neither
+operators = row wordSort wordSort neither ∷ row wordSort wordSort neither ∷ row wordSort wordSort neither
     ∷ row wordSort wordSort neither ∷ row wordSort wordSort neither ∷ row wordSort wordSort neither
-    ∷ row wordSort wordSort count ∷ row wordSort wordSort count ∷ row wordSort wordSort count
+    ∷ row wordSort wordSort right ∷ row wordSort wordSort right ∷ row wordSort wordSort right
     ∷ row wordSort wordSort both ∷ row wordSort wordSort both
     ∷ row wordSort booleanSort neither ∷ row wordSort booleanSort neither
     ∷ row booleanSort booleanSort neither ∷ row booleanSort booleanSort neither ∷ []
@@ -46,10 +51,15 @@ operators =
 abbrev pub operator : ℕ → Row
 operator op = getD operators op (row wordSort wordSort neither)
 
--- the operators by number, in the table's order
+abbrev pub leftPublic : ℕ → Bool
+leftPublic op = eqb (operator op .publics) both
+
+abbrev pub rightPublic : ℕ → Bool
+rightPublic op = leb right (operator op .publics)
+
+-- the operators by number, in the table's order; "3 and, 4 or, 5 xor" go bit by bit
 abbrev pub binaryOperations : List (ℕ → ℕ → ℕ)
-binaryOperations =
-    add ∷ subtract ∷ multiply ∷ bitwiseAnd ∷ bitwiseOr ∷ bitwiseXor ∷ shiftLeft ∷ shiftRight ∷ rotateLeft
+binaryOperations = add ∷ subtract ∷ multiply ∷ bitAnd ∷ bitOr ∷ bitXor ∷ shiftLeft ∷ shiftRight ∷ rotateLeft
     ∷ quotient ∷ remainder ∷ equal ∷ less ∷ logicalAnd ∷ logicalOr ∷ []
 
 -- the value of an operator by its number, its left and its right operand; past the table, 0

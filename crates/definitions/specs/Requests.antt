@@ -1,39 +1,34 @@
--- Document 01, "The machine" and "From the image or request": the requests load, poke, peek, clear and call, with the refusals 17, 18 and 20.
--- "With every request it lends the image and the cells, arrays in order." Each request gives its answer and what the lent cells, and a call's
--- lent trace, hold afterwards.
--- Assumes nothing.
-use Prim.Native.Nat.{ℕ, zero, suc, _+_, _*_, _-_, _/_, _%_}
-use mathlib.Core.Bool.{Bool, true, false, _&&_, _||_, not}
+-- Document 01, "The machine" and "From the image or request": the requests load, poke, peek, clear and call, with the
+-- refusals 17, 18 and 20. "With every request it lends the image and the cells, arrays in order." Each request gives
+-- its answer and what the lent cells, and a call's lent trace, hold afterwards.
+use Prim.Native.Nat.{ℕ, _+_}
+use mathlib.Core.Bool.{Bool, _&&_}
 use mathlib.Core.List.{List, [], _∷_, _++_}
 use lib.Dec.{ltb, leb, eqb}
-use lib.ListN.{length, getD, set, take, drop, replicate}
+use lib.ListN.{length, getD, set, drop, replicate}
 use Rattle.definitions.specs.Choice.{pick}
 use Rattle.definitions.specs.Arithmetic.{truth}
 use Rattle.definitions.specs.Operators.{booleanSort}
-use Rattle.definitions.specs.Bytes.{wordsOf, lent}
-use Rattle.definitions.specs.declared.Fault.{Fault}
 use Rattle.definitions.specs.declared.Answer.{Answer}
 use Rattle.definitions.specs.declared.Answer.the-variants.{Done, Stopped, Refused}
 use Rattle.definitions.specs.Image.{arrayLength, typeSort, Procedure, Image, procedureAt, cellCount, baseOf}
-use Rattle.definitions.specs.Reading.{Parse, got, refused, readImage}
-use Rattle.definitions.specs.Checking.{faultOf}
-use Rattle.definitions.specs.Running.{Trace, traceWords, Ran, on, halt, Given, gave, runProcedure}
+use Rattle.definitions.specs.Reading.{Parse, got, refused}
+use Rattle.definitions.specs.Checking.{admitted}
+use Rattle.definitions.specs.Running.{traceWords, Ran, on, halt, Given, gave, runProcedure}
 
 -- An image that a request can work on, or the refusal.
 pub data Ready : Type 0 where
   ready : Image → Ready
   unready : ℕ → ℕ → Ready
 
--- "The image is checked anew .. then a cell slice too short is 17": `count` cells are lent
-unfoldable pub readyTree : Parse Image → ℕ → Ready
-readyTree (refused n p) count = unready n p
-readyTree (got image n) count =
-    pick (eqb (faultOf image .number) 0)
-    (pick (leb (cellCount (image .arrays)) count) (ready image) (unready 17 0))
-    (unready (faultOf image .number) (faultOf image .place))
+-- "then a cell slice too short is 17": `count` cells are lent
+unfoldable pub withCells : Parse Image → ℕ → Ready
+withCells (refused n p) count = unready n p
+withCells (got image n) count = pick (leb (cellCount (image .arrays)) count) (ready image) (unready 17 0)
 
+-- "The image is checked anew and a bad one answers as load does"
 unfoldable pub readyToLoad : Bool → List ℕ → ℕ → Ready
-readyToLoad whole image count = readyTree (readImage whole image) count
+readyToLoad whole image count = withCells (admitted whole image) count
 
 -- "outside load an empty one is 20": no word, and no byte left over
 unfoldable pub readyToServe : Bool → List ℕ → ℕ → Ready
@@ -69,13 +64,11 @@ abbrev pub hasCell : Image → ℕ → ℕ → Bool
 hasCell image a i = ltb a (length (image .arrays)) && ltb i (arrayLength (getD (image .arrays) a 0))
 
 unfoldable pub poke : Bool → List ℕ → List ℕ → ℕ → ℕ → ℕ → Served
-poke whole image cells a i v =
-    served (readyToServe whole image (length cells)) cells
+poke whole image cells a i v = served (readyToServe whole image (length cells)) cells
     (λ m. pick (hasCell m a i) (carriedOut 0, set cells (baseOf (m .arrays) a + i) v) (Refused 17 0, cells))
 
 unfoldable pub peek : Bool → List ℕ → List ℕ → ℕ → ℕ → Served
-peek whole image cells a i =
-    served (readyToServe whole image (length cells)) cells
+peek whole image cells a i = served (readyToServe whole image (length cells)) cells
     (λ m. pick (hasCell m a i) (carriedOut (getD cells (baseOf (m .arrays) a + i) 0), cells) (Refused 17 0, cells))
 
 -- what a call gives: its answer, the cells afterwards, and the trace words recorded
@@ -92,20 +85,19 @@ argumentValues types [] = []
 argumentValues [] (v ∷ vs) = v ∷ vs
 argumentValues (w ∷ ws) (v ∷ vs) = answered w v ∷ argumentValues ws vs
 
--- "A stop answers 0 with the steps and entries so far; cells are as before the call". The number answered is the stop's, beside its place.
+-- "A stop answers 0 with the steps and entries so far; cells are as before the call": the stop's number and place stand
+-- beside a result of 0 (Host, `layout`).
 unfoldable pub ended : Procedure → List ℕ → Ran (List ℕ) Given → Called
 ended p cells (on (gave v after) z t) = (Done (answered (p .result) v) z (length t), after, t)
 ended p cells (halt n l z t) = (Stopped n l z (length t), cells, t)
 
 -- "17 no such procedure"; "18 argument count". `room` trace words are lent.
 unfoldable pub calledOn : Image → List ℕ → ℕ → List ℕ → ℕ → ℕ → Called
-calledOn image cells f arguments budget room =
-    pick (ltb f (length (image .procedures)))
+calledOn image cells f arguments budget room = pick (ltb f (length (image .procedures)))
     (pick (eqb (length arguments) (procedureAt (image .procedures) f .parameters))
     (ended (procedureAt (image .procedures) f) cells
     (runProcedure (traceWords room) budget (image .arrays) (image .procedures) (length (image .procedures)) f
-    (argumentValues (procedureAt (image .procedures) f .types) arguments) 0 [] cells))
-    (Refused 18 0, cells, []))
+    (argumentValues (procedureAt (image .procedures) f .types) arguments) 0 [] cells)) (Refused 18 0, cells, []))
     (Refused 17 0, cells, [])
 
 unfoldable pub servedCall : Ready → List ℕ → (Image → Called) → Called

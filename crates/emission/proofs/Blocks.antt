@@ -1,18 +1,18 @@
 -- The rules of the loop over the statements of a block. Assumes nothing.
-use Prim.Native.Nat.{ℕ, _+_, _*_, _-_, _/_, _%_, _≤_, _<_}
-use mathlib.Core.Bool.{Bool, true, false, _||_}
-use mathlib.Core.List.{List, [], _∷_, _++_}
-use mathlib.Core.Path.{_≡_, refl, sym, ap, _∙_}
+use Prim.Native.Nat.{ℕ, _+_, _-_, _≤_, _<_}
+use mathlib.Core.Bool.{Bool, true}
+use mathlib.Core.List.{List}
+use mathlib.Core.Path.{_≡_, sym, ap, _∙_}
 use native.Mathlib.Nat.{add-zero}
 use native.Mathlib.Omega.{arith}
 use lib.ListN.{length, getD, length-append}
-use Rattle.definitions.specs.Image.{payloadOf, Statement, Block, done, step}
+use Rattle.definitions.specs.Image.{payloadOf, Statement, Block, done, sequence}
 use Rattle.definitions.specs.Reading.{Parse, got, refused, readStatement, readBlock}
-use Rattle.definitions.specs.Labels.{rcAfter, rcAfterBlock}
+use Rattle.definitions.specs.Labels.{rcAfter}
 use Rattle.definitions.specs.Encoding.{statementCount, statementWords, statementsWords}
-use Rattle.definitions.specs.Compiling.{followedBy, temporaries, blockTemporaries, compiledStatement, compiledBlock}
-use Rattle.opening.specs.Parses.{ok, endOf, ok-of, end-of}
-use Rattle.tape.specs.Tape.{Tape, write, writes}
+use Rattle.definitions.specs.Compiling.{temporaries, blockTemporaries, compiledStatement, compiledBlock}
+use Rattle.laws.specs.Parses.{ok, endOf}
+use Rattle.tape.specs.Tape.{writes}
 use Rattle.tape.specs.Laws.{writes-nil, writes-app}
 use Rattle.contexts.specs.Fine.{FineStatement, statementsLeft}
 use Rattle.contexts.specs.StatementParts.{no-statement, first-statement, fine-statement, fine-statements, block-left}
@@ -40,7 +40,7 @@ then-left : (cs arrays types : List ℕ) (first rv : ℕ) (pc : Bool) (arm : ℕ
     → emittedBlock cs arrays types first rv pc arm (emitted cs arrays types first rv pc arm rc o n k out (got s i) .0 .rc)
     (emitted cs arrays types first rv pc arm rc o n k out (got s i) .0 .o) (emitted cs arrays types first rv pc arm rc o n k out (got s i) .0 .n)
     (emitted cs arrays types first rv pc arm rc o n k out (got s i) .0 .k) (emitted cs arrays types first rv pc arm rc o n k out (got s i) .1) (got b m)
-    ≡ emittedBlock cs arrays types first rv pc arm rc o n k out (got (step p s b) m)
+    ≡ emittedBlock cs arrays types first rv pc arm rc o n k out (got (sequence p s b) m)
 unfolding emitted emittedBlock
 then-left cs arrays types first rv pc arm rc o n k out p s b m i =
     rw (

@@ -1,18 +1,18 @@
 -- What the returns of ifs, fors and bodies give, and what their calls ask. Assumes nothing.
-use Prim.Native.Nat.{ℕ, _+_, _*_, _-_, _/_, _%_, _≤_, _<_}
+use Prim.Native.Nat.{ℕ, _+_, _-_, _≤_}
 use mathlib.Core.Bool.{Bool, true, false, _||_}
-use mathlib.Core.List.{List, [], _∷_, _++_}
+use mathlib.Core.List.{List, _∷_, _++_}
 use mathlib.Core.Path.{_≡_, refl, sym, ap, _∙_}
-use native.Mathlib.Nat.{add-zero, zero-add}
 use native.Mathlib.Omega.{arith}
 use lib.ListN.{length, getD, length-append}
-use Rattle.definitions.specs.Image.{opOf, targetOf, Expression, variable, unary, Statement, assign, conditional, loop, Block}
+use Rattle.definitions.specs.Image.{opOf, targetOf, Expression, variable, unary, assign, conditional, loop, Block}
 use Rattle.definitions.specs.Reading.{Parse, got, refused, readExpression, readStatement, readBlock}
-use Rattle.definitions.specs.Labels.{secretIn, rcAfter, rcAfterBlock}
-use Rattle.definitions.specs.Encoding.{wordWith, statementWordWith, expressionWords, statementCount, statementWords, statementsWords, blockWords}
-use Rattle.definitions.specs.Compiling.{renamed, moved, act, under, one, ifTemporaries, temporaries, blockTemporaries, compiledIf, compiledStatement, compiledBlock}
-use Rattle.opening.specs.Parses.{ok, got-ok, endOf, ok-of, end-of}
-use Rattle.opening.specs.Statements.{open-if, open-for}
+use Rattle.definitions.specs.Labels.{secretIn, rcAfterBlock}
+use Rattle.definitions.specs.Encoding.{wordWith, statementWordWith, expressionWords, statementCount, statementWords}
+use Rattle.definitions.specs.Encoding.{statementsWords, blockWords}
+use Rattle.definitions.specs.Compiling.{renamed, moved, act, under, one, blockTemporaries, compiledBlock}
+use Rattle.laws.specs.Parses.{ok, got-ok, endOf, end-of}
+use Rattle.laws.specs.StatementInversion.{open-if, open-for}
 use Rattle.tape.specs.Tape.{Tape, write, writes}
 use Rattle.tape.specs.Laws.{writes-on, writes-app, patched}
 use Rattle.contexts.specs.Fine.{FineBlock}
@@ -27,7 +27,8 @@ use Rattle.emission.specs.Callees.{calleesOf}
 use Rattle.emission.specs.Emitted.{Emission, outcome, emitted, emittedBlock, emittedBody, ifHead, forHead}
 use Rattle.emission.specs.declared.Cursor.{Cursor}
 use Rattle.emission.proofs.Outcomes.{outcome-eq, single-count, or-false, or-true}
-use Rattle.emission.proofs.Shapes.{secret-count, secret-words, public-count, public-words, if-step, if-temporaries, if-rc, for-step, for-temporaries, for-rc, for-words}
+use Rattle.emission.proofs.Shapes.{secret-count, secret-words, public-count, public-words, if-step}
+use Rattle.emission.proofs.Shapes.{if-temporaries, if-rc, for-step, for-temporaries, for-rc, for-words}
 
 -- ---- where the parts end
 

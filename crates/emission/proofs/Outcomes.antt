@@ -1,15 +1,14 @@
 -- Outcomes of the emission, and the words and counts of compiled blocks. Assumes nothing.
-use Prim.Native.Nat.{ℕ, _+_, _*_, _≤_, _<_}
+use Prim.Native.Nat.{ℕ, _+_}
 use mathlib.Core.Bool.{Bool, true, false, _||_}
-use mathlib.Core.List.{List, [], _∷_, _++_, append-assoc, append-nil}
+use mathlib.Core.List.{List, _++_, append-assoc, append-nil}
 use mathlib.Core.Path.{_≡_, refl, sym, ap, _∙_}
 use native.Mathlib.Omega.{arith}
-use lib.ListN.{length}
 use Rattle.definitions.specs.Choice.{pick}
-use Rattle.definitions.specs.Image.{Expression, Statement, Block, done, step}
-use Rattle.definitions.specs.Encoding.{wordWith, statementCount, statementWords, statementsWords, blockWords}
+use Rattle.definitions.specs.Image.{Expression, Statement, Block, done, sequence}
+use Rattle.definitions.specs.Encoding.{statementCount, statementWords, statementsWords}
 use Rattle.definitions.specs.Compiling.{one, followedBy, compiledReturn, compiledCall}
-use Rattle.tape.specs.Tape.{Tape, writes}
+use Rattle.tape.specs.Tape.{Tape}
 use Rattle.copying.specs.Copy.{Copied, spot}
 use Rattle.copying.specs.declared.Spot.{Spot}
 use Rattle.emission.specs.Emitted.{Emission, outcome}
@@ -42,12 +41,12 @@ call-count false g a k f x es = refl
 pub followed-count : (a b : Block) → statementCount (followedBy a b) ≡ statementCount a + statementCount b
 unfolding followedBy statementCount
 followed-count done b = omega arith
-followed-count (step p s a) b = ap (λ z. 1 + z) (followed-count a b) ∙ omega arith
+followed-count (sequence p s a) b = ap (λ z. 1 + z) (followed-count a b) ∙ omega arith
 
 pub followed-words : (a b : Block) → statementsWords (followedBy a b) ≡ statementsWords a ++ statementsWords b
 unfolding followedBy statementWords
 followed-words done b = refl
-followed-words (step p s a) b =
+followed-words (sequence p s a) b =
     ap (λ z. statementWords s ++ z) (followed-words a b) ∙ sym (append-assoc (statementWords s) (statementsWords a) (statementsWords b))
 
 pub or-false : (c : Bool) → c || false ≡ c

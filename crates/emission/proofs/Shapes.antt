@@ -1,17 +1,20 @@
--- The compiled forms of ifs, fors and blocks, one step at a time: their words, counts and temporaries from those of their parts. Assumes nothing.
-use Prim.Native.Nat.{ℕ, _+_, _*_, _≤_, _<_}
+-- The compiled forms of ifs, fors and blocks, one sequence at a time: their words, counts and temporaries from those of their parts. Assumes nothing.
+use Prim.Native.Nat.{ℕ, _+_}
 use mathlib.Core.Bool.{Bool, true, false, _||_}
-use mathlib.Core.List.{List, [], _∷_, _++_, append-assoc, append-nil}
+use mathlib.Core.List.{List, _∷_, _++_, append-assoc, append-nil}
 use mathlib.Core.Path.{_≡_, refl, sym, ap, _∙_}
 use native.Mathlib.Omega.{arith}
-use lib.ListN.{length, length-append}
-use Rattle.definitions.specs.Image.{Expression, variable, unary, Statement, assign, conditional, loop, Block, done, step, Procedure}
+use lib.ListN.{length}
+use Rattle.definitions.specs.Image.{Expression, variable, unary, Statement, assign, conditional, loop, Block, sequence}
+use Rattle.definitions.specs.Image.{Procedure}
 use Rattle.definitions.specs.Labels.{secretIn, rcAfter, rcAfterBlock}
-use Rattle.definitions.specs.Encoding.{wordWith, statementWordWith, expressionWords, statementCount, statementWords, statementsWords, blockWords}
-use Rattle.definitions.specs.Compiling.{renamed, moved, act, under, one, followedBy, Arm, ifTemporaries, temporaries, blockTemporaries, compiledIf, compiledStatement, compiledBlock}
+use Rattle.definitions.specs.Encoding.{statementWordWith, expressionWords, statementCount, statementWords}
+use Rattle.definitions.specs.Encoding.{statementsWords, blockWords}
+use Rattle.definitions.specs.Compiling.{renamed, moved, act, under, one, followedBy, ArmCode, ifTemporaries}
+use Rattle.definitions.specs.Compiling.{temporaries, blockTemporaries, compiledIf, compiledStatement, compiledBlock}
 use Rattle.emission.proofs.Outcomes.{followed-count, followed-words}
 
-module _ (pc : Bool) (arm : ℕ) (rc : Bool) (live k : ℕ) (c : Expression) (size : ℕ) (a b : Arm) where
+module _ (pc : Bool) (arm : ℕ) (rc : Bool) (live k : ℕ) (c : Expression) (size : ℕ) (a b : ArmCode) where
   pub secret-count : statementCount (compiledIf true pc arm rc live k c size a b)
       ≡ 2 + (statementCount (a true k (k + 2)) + statementCount (b true (k + 1) (k + 2 + size)))
   unfolding compiledIf statementCount
@@ -74,18 +77,18 @@ module _ (ps : List Procedure) (arrays types : List ℕ) (first rv : ℕ) (pc : 
   unfolding rcAfter
   for-rc x f t b = refl
 
-  pub block-step : (p : ℕ) (s : Statement) (b : Block) → compiledBlock ps arrays types first rv (step p s b) pc arm rc k
+  pub block-step : (p : ℕ) (s : Statement) (b : Block) → compiledBlock ps arrays types first rv (sequence p s b) pc arm rc k
       ≡ followedBy (compiledStatement ps arrays types first rv s pc arm rc k)
       (compiledBlock ps arrays types first rv b pc arm (rcAfter types arrays pc rc s) (k + length (temporaries ps arrays types pc rc s)))
   unfolding compiledStatement
   block-step p s b = refl
 
-  pub block-temporaries : (p : ℕ) (s : Statement) (b : Block) → blockTemporaries ps arrays types pc rc (step p s b)
+  pub block-temporaries : (p : ℕ) (s : Statement) (b : Block) → blockTemporaries ps arrays types pc rc (sequence p s b)
       ≡ temporaries ps arrays types pc rc s ++ blockTemporaries ps arrays types pc (rcAfter types arrays pc rc s) b
   unfolding temporaries
   block-temporaries p s b = refl
 
-  pub block-rc : (p : ℕ) (s : Statement) (b : Block) → rcAfterBlock types arrays pc rc (step p s b) ≡ rcAfterBlock types arrays pc (rcAfter types arrays pc rc s) b
+  pub block-rc : (p : ℕ) (s : Statement) (b : Block) → rcAfterBlock types arrays pc rc (sequence p s b) ≡ rcAfterBlock types arrays pc (rcAfter types arrays pc rc s) b
   unfolding rcAfter
   block-rc p s b = refl
 

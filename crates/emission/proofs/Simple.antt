@@ -1,20 +1,20 @@
 -- What each return gives of a statement that holds no block, and what its calls ask. Assumes nothing.
-use Prim.Native.Nat.{ℕ, _+_, _*_, _-_, _/_, _%_, _≤_, _<_}
+use Prim.Native.Nat.{ℕ, _+_, _-_, _/_, _<_}
 use mathlib.Core.Bool.{Bool, true, false, _||_}
-use mathlib.Core.List.{List, [], _∷_, _++_}
+use mathlib.Core.List.{List, _∷_, _++_}
 use mathlib.Core.Path.{_≡_, refl, sym, ap, _∙_}
 use native.Mathlib.Nat.{add-zero}
 use native.Mathlib.Omega.{arith}
 use lib.Dec.{eqb}
 use lib.ListN.{length, getD}
 use Rattle.definitions.specs.Choice.{pick}
-use Rattle.definitions.specs.Image.{opOf, targetOf, calledOf, resultOf, Expression, variable, cell, Statement, assign, store, return, call, guarded, procedureAt}
-use Rattle.definitions.specs.Reading.{Parse, got, refused, readExpression, readArguments, readStatement}
+use Rattle.definitions.specs.Image.{opOf, targetOf, calledOf, resultOf, Expression, guarded, procedureAt}
+use Rattle.definitions.specs.Reading.{Parse, got, readExpression, readStatement}
 use Rattle.definitions.specs.Labels.{rcAfter}
-use Rattle.definitions.specs.Encoding.{statementWordWith, expressionWords, statementCount, statementWords, statementsWords}
-use Rattle.definitions.specs.Compiling.{renamed, moved, movedAll, act, masked, one, compiledReturn, compiledCall, callTemporary, temporaries, compiledStatement}
-use Rattle.opening.specs.Parses.{ok, got-ok, endOf, ok-of, end-of}
-use Rattle.opening.specs.Statements.{open-statement, open-assign, open-store, open-return, open-call, last-op}
+use Rattle.definitions.specs.Encoding.{statementWordWith, expressionWords, statementCount}
+use Rattle.definitions.specs.Compiling.{renamed, moved, movedAll, act, callTemporary, temporaries, compiledStatement}
+use Rattle.laws.specs.Parses.{ok, got-ok, endOf, ok-of, end-of}
+use Rattle.laws.specs.StatementInversion.{open-assign, open-store, open-return, open-call}
 use Rattle.tape.specs.Tape.{Tape, write, writes}
 use Rattle.contexts.specs.Fine.{argumentsLeft}
 use Rattle.copying.specs.Copy.{Copied, spot, copied, copiedTwo}
@@ -23,7 +23,7 @@ use Rattle.copying.specs.Runs.{word-copy}
 use Rattle.copying.specs.declared.Spot.{Spot}
 use Rattle.masking.specs.Forms.{assigned, stored, returned, called}
 use Rattle.emission.specs.Callees.{calleesOf, callee-guarded}
-use Rattle.emission.specs.Emitted.{Emission, outcome, emitted, ifHead, forHead}
+use Rattle.emission.specs.Emitted.{Emission, emitted, ifHead, forHead}
 use Rattle.emission.proofs.Outcomes.{spot-outcome, outcome-eq, one-words, return-count, call-count}
 
 module _ (cs arrays types : List ℕ) (first rv : ℕ) (pc : Bool) (arm : ℕ) (rc : Bool) (o n k : ℕ) (out : List ℕ)

@@ -1,11 +1,11 @@
 -- What compiling needs of the procedures of an image, as one number each: mode × 2 + the sort of the result. Assumes nothing.
-use Prim.Native.Nat.{ℕ, zero, suc, _+_, _*_, _/_, _%_}
+use Prim.Native.Nat.{ℕ, zero, suc, _*_, _/_, _%_}
 use mathlib.Core.List.{List, [], _∷_}
 use mathlib.Core.Path.{_≡_, refl, ap}
 use native.Mathlib.Omega.{arith}
 use lib.Dec.{eqb}
 use lib.ListN.{getD}
-use Rattle.definitions.specs.Image.{typeSort, done, Procedure, guarded, noProcedure, procedureAt}
+use Rattle.definitions.specs.Image.{typeSort, done, Procedure, guarded, procedureAt}
 
 -- a procedure of that mode and with a result of that sort
 abbrev pub callee : ℕ → Procedure

@@ -1,7 +1,7 @@
 -- What emitting a statement or a block that was read leaves: the places after it, the statements and temporaries counted on, the rc after it,
 -- and the words of its compiled tree on the tape. Assumes nothing.
 use Prim.Native.Nat.{ℕ, _+_, _*_, _≤_, _<_}
-use mathlib.Core.Bool.{Bool, true, false}
+use mathlib.Core.Bool.{Bool}
 use mathlib.Core.List.{List, _∷_, _++_}
 use lib.ListN.{length}
 use Rattle.definitions.specs.Image.{Expression, Statement, Block}

@@ -10,7 +10,7 @@ ghost use lib.ListN.{length, getD};
 ghost use Rattle.definitions.specs.Choice.{pick};
 ghost use Rattle.definitions.specs.Image.{opOf};
 ghost use Rattle.definitions.specs.Reading.{readExpression, readStatement, readBlock};
-ghost use Rattle.opening.specs.Parses.{ok, endOf};
+ghost use Rattle.laws.specs.Parses.{ok, endOf};
 ghost use Rattle.contexts.specs.Fine.{FineExpression, FineTwo, FineStatement, FineBlock, statementsLeft};
 ghost use Rattle.contexts.specs.Context.{seen};
 ghost use Rattle.emission.specs.Emitted.{emitted, emittedBlock, emittedBody, Small, Grown, ifHead, forHead};

@@ -1,14 +1,13 @@
 -- What each way out of the functions below `evaluate` gives. Assumes nothing.
-use mathlib.Core.Path.{_≡_, refl, sym, ap, _∙_}
+use mathlib.Core.Path.{_≡_, sym, ap}
 use mathlib.Core.List.{List}
-use mathlib.Core.Bool.{_||_}
 use Prim.Native.Nat.{ℕ, _+_, _/_, _%_, _≤_, _<_}
 use borrow.Author.Tests.{lt-ltb, le-ltb, ne-eqb}
 use lib.Dec.{eqb}
 use lib.ListN.{length, getD, List·getD-eq-default}
 use Rattle.definitions.specs.Choice.{pick}
 use Rattle.definitions.specs.Operators.{applyBinary}
-use Rattle.definitions.specs.Running.{Evaluated, value, stop, bind, emit, divided, operated}
+use Rattle.definitions.specs.Running.{emit, divided, operated}
 use Rattle.tracing.specs.declared.Value.{Value}
 use Rattle.tracing.specs.declared.Value.the-variants.{Got, Stop}
 use Rattle.tracing.specs.Log.{Log, log, byteTrace}

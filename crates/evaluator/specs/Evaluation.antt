@@ -4,13 +4,13 @@ use mathlib.Core.Bool.{true}
 use mathlib.Core.List.{List}
 use Prim.Native.Nat.{ℕ, _≤_, _<_}
 use lib.ListN.{length}
-use Rattle.definitions.specs.Image.{Expression, Image}
+use Rattle.definitions.specs.Image.{Expression}
 use Rattle.definitions.specs.Reading.{Parse, got, refused, readExpression}
 use Rattle.definitions.specs.Running.{Evaluated, stop, evaluate}
-use Rattle.opening.specs.Parses.{ok}
+use Rattle.laws.specs.Parses.{ok}
 use Rattle.tracing.specs.Log.{Log, byteTrace}
 use Rattle.tracing.specs.Answers.{until}
-use Rattle.evaluator.specs.Program.{programOf}
+use Rattle.laws.specs.ImageIn.{imageIn}
 use Rattle.evaluator.specs.Cells.{Layout}
 
 -- The words at a place were read as an expression with the given number of levels left, and the table fits the image.
@@ -20,7 +20,7 @@ pub record Readable (level : ℕ) (image tables : List ℕ) (at : ℕ) : Type 0 
   pub within : at < length image
   pub small : length image ≤ 268435456
   pub read : ok (readExpression level image at) ≡ true
-  pub layout : Layout (programOf image .arrays) tables
+  pub layout : Layout (imageIn image .arrays) tables
 
 -- the value of the expression that was read, with the place after it
 unfoldable pub evaluateAt : List ℕ → List ℕ → List ℕ → Log → Parse Expression → Evaluated Log (ℕ × ℕ)

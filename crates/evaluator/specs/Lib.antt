@@ -1,4 +1,3 @@
-pub mod Program
 pub mod Cells
 pub mod CellLaws
 pub mod Evaluation

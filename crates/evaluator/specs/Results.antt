@@ -1,11 +1,10 @@
 -- What an answer says of the definition's result. Assumes nothing.
-use mathlib.Core.Path.{_≡_, refl, sym, ap, ap₂, _∙_}
+use mathlib.Core.Path.{_≡_, sym, ap, ap₂}
 use mathlib.Core.List.{List}
 use Prim.Native.Nat.{ℕ}
 use Rattle.definitions.specs.Image.{Expression}
 use Rattle.definitions.specs.Reading.{Parse, got}
-use Rattle.definitions.specs.Running.{Evaluated, value, stop, bind}
-use Rattle.definitions.specs.Running.{evaluate as valueOf}
+use Rattle.definitions.specs.Running.{Evaluated, value, stop, evaluate as valueOf}
 use Rattle.tracing.specs.declared.Value.{Value}
 use Rattle.tracing.specs.declared.Value.the-variants.{Got, Stop}
 use Rattle.tracing.specs.Log.{Log, log, byteTrace}

@@ -9,7 +9,7 @@ ghost use Rattle.definitions.specs.Image.{kindOf, payloadOf};
 ghost use Rattle.definitions.specs.Running.{divided, operated};
 ghost use Rattle.tracing.specs.Log.{log, byteTrace};
 ghost use Rattle.tracing.specs.Answers.{evaluation, until};
-ghost use Rattle.evaluator.specs.Program.{programOf};
+ghost use Rattle.laws.specs.ImageIn.{imageIn};
 ghost use Rattle.evaluator.specs.Cells.{entryAt, numbered, cellRead};
 ghost use Rattle.evaluator.specs.Evaluation.{Readable, evaluateAt};
 
@@ -161,7 +161,7 @@ fn evaluate_binary(
     op: u32,
 ) -> tracing::Value
     requires { ⌜ (Readable level (now image) (now tables) at) × (kindOf (getD (now image) at 0) ≡ 13) × (op ≡ payloadOf (getD (now image) at 0)) ⌝ }
-    ensures { λ r. ⌜ evaluation r (now (trace .exit)) ≡ evaluateAt (programOf (now (image .entry)) .arrays) (now (vars .entry)) (now (cells .entry)) (log used (now (trace .entry))) (readExpression level (now (image .entry)) at) ⌝ }
+    ensures { λ r. ⌜ evaluation r (now (trace .exit)) ≡ evaluateAt (imageIn (now (image .entry)) .arrays) (now (vars .entry)) (now (cells .entry)) (log used (now (trace .entry))) (readExpression level (now (image .entry)) at) ⌝ }
 {
     match evaluate(image, tables, vars, cells, trace, at + 1, used, level - 1) {
         tracing::Value::Stop(number, stop, u) => tracing::Value::Stop(number, stop, u),
@@ -193,7 +193,7 @@ fn evaluate_select(
     level: u32,
 ) -> tracing::Value
     requires { ⌜ (Readable level (now image) (now tables) at) × (kindOf (getD (now image) at 0) ≡ 14) ⌝ }
-    ensures { λ r. ⌜ evaluation r (now (trace .exit)) ≡ evaluateAt (programOf (now (image .entry)) .arrays) (now (vars .entry)) (now (cells .entry)) (log used (now (trace .entry))) (readExpression level (now (image .entry)) at) ⌝ }
+    ensures { λ r. ⌜ evaluation r (now (trace .exit)) ≡ evaluateAt (imageIn (now (image .entry)) .arrays) (now (vars .entry)) (now (cells .entry)) (log used (now (trace .entry))) (readExpression level (now (image .entry)) at) ⌝ }
 {
     match evaluate(image, tables, vars, cells, trace, at + 1, used, level - 1) {
         tracing::Value::Stop(number, stop, u) => tracing::Value::Stop(number, stop, u),
@@ -237,7 +237,7 @@ pub fn evaluate(
     level: u32,
 ) -> tracing::Value
     requires { ⌜ Readable level (now image) (now tables) at ⌝ }
-    ensures { λ r. ⌜ evaluation r (now (trace .exit)) ≡ evaluateAt (programOf (now (image .entry)) .arrays) (now (vars .entry)) (now (cells .entry)) (log used (now (trace .entry))) (readExpression level (now (image .entry)) at) ⌝ }
+    ensures { λ r. ⌜ evaluation r (now (trace .exit)) ≡ evaluateAt (imageIn (now (image .entry)) .arrays) (now (vars .entry)) (now (cells .entry)) (log used (now (trace .entry))) (readExpression level (now (image .entry)) at) ⌝ }
 {
     let w = image[at];
     let kind = w / 268435456;

@@ -5,8 +5,7 @@ use lib.ListN.{length}
 use Rattle.definitions.specs.declared.Answer.{Answer}
 use Rattle.definitions.specs.declared.Answer.the-variants.{Done, Stopped, Refused}
 use Rattle.definitions.specs.Bytes.{lent}
-use Rattle.definitions.specs.Running.{on, halt, Given, gave}
-use Rattle.definitions.specs.Running.{Ran as Run}
+use Rattle.definitions.specs.Running.{on, halt, Given, gave, Ran as Run}
 
 pub data Execution : Type 0 where
   -- the result, the steps, the number of trace words recorded, the cells, the lent trace bytes

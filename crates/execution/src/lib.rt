@@ -4,7 +4,7 @@ ghost use mathlib.Core.List.{[], _++_};
 ghost use Prim.Native.Nat.{_/_, _<_, _≤_};
 ghost use lib.ListN.{length, drop};
 ghost use Rattle.definitions.specs.Running.{traceWords, runProcedure};
-ghost use Rattle.evaluator.specs.Program.{programOf};
+ghost use Rattle.laws.specs.ImageIn.{imageIn};
 ghost use Rattle.runner.specs.Known.{Callable, Known};
 ghost use Rattle.execution.specs.Executions.{answeredRun, executed};
 
@@ -31,8 +31,8 @@ pub fn run_procedure(
     f: u32,
     budget: u32,
 ) -> definitions::Answer
-    requires { ⌜ (length (now arguments) ≤ 255) × (0 < length (now image)) × (f < 32) × (f < length (programOf (now image) .procedures)) × (Callable (now image) (now tables) f) × (Known (now image) (now tables) (now ends) f) ⌝ }
-    ensures { λ r. ⌜ answeredRun r (now (cells .exit)) (now (trace .exit)) ≡ executed (now (trace .entry)) (runProcedure (traceWords (length (now (trace .entry)) / 4)) budget (programOf (now (image .entry)) .arrays) (programOf (now (image .entry)) .procedures) (length (programOf (now (image .entry)) .procedures)) f (now (arguments .entry)) 0 [] (now (cells .entry))) ⌝ }
+    requires { ⌜ (length (now arguments) ≤ 255) × (0 < length (now image)) × (f < 32) × (f < length (imageIn (now image) .procedures)) × (Callable (now image) (now tables) f) × (Known (now image) (now tables) (now ends) f) ⌝ }
+    ensures { λ r. ⌜ answeredRun r (now (cells .exit)) (now (trace .exit)) ≡ executed (now (trace .entry)) (runProcedure (traceWords (length (now (trace .entry)) / 4)) budget (imageIn (now (image .entry)) .arrays) (imageIn (now (image .entry)) .procedures) (length (imageIn (now (image .entry)) .procedures)) f (now (arguments .entry)) 0 [] (now (cells .entry))) ⌝ }
 {
     let body = runner::parts::body_of(tables, f);
     let top = runner::parts::deepest(image);

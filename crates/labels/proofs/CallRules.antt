@@ -1,5 +1,5 @@
 -- What the walk of a call gives. Assumes nothing.
-use Prim.Native.Nat.{ℕ, _+_, _-_, _/_, _%_}
+use Prim.Native.Nat.{ℕ, _+_, _/_, _%_}
 use native.Mathlib.Omega.{arith}
 use mathlib.Core.Bool.{Bool, true, _&&_, _||_, not}
 use mathlib.Core.List.{List, _++_}
@@ -13,7 +13,7 @@ use Rattle.definitions.specs.Reading.{got}
 use Rattle.definitions.specs.Faults.{least, faultIf}
 use Rattle.definitions.specs.Labels.{argumentLabelFaults}
 use Rattle.laws.specs.Least.{least-append}
-use Rattle.opening.specs.Parses.{ok, got-ok}
+use Rattle.laws.specs.Parses.{ok, got-ok}
 use Rattle.contexts.specs.Fine.{argumentsLeft}
 use Rattle.labels.specs.Flows.{ending, arguedAll}
 use Rattle.labels.specs.Callees.{Callee, calling, arguments-same, arguments-count}

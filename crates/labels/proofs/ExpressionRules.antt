@@ -11,10 +11,11 @@ use Rattle.definitions.specs.Reading.{Parse, got, refused, readExpression}
 use Rattle.definitions.specs.Faults.{least}
 use Rattle.definitions.specs.Labels.{secretIn, labelFaults}
 use Rattle.laws.specs.Least.{least-append}
-use Rattle.opening.specs.Parses.{ok, endOf, end-of}
-use Rattle.opening.specs.Places.{place-of}
-use Rattle.opening.specs.Words.{binary-limit}
-use Rattle.opening.specs.Expressions.{open-expression, open-constant, open-raw, open-boolean, open-variable, open-cell, open-unary, open-binary, open-select}
+use Rattle.laws.specs.Parses.{ok, endOf, end-of}
+use Rattle.laws.specs.Places.{place-of}
+use Rattle.laws.specs.WordTests.{binary-limit}
+use Rattle.laws.specs.ExpressionInversion.{open-expression, open-constant, open-raw, open-boolean, open-variable}
+use Rattle.laws.specs.ExpressionInversion.{open-cell, open-unary, open-binary, open-select}
 use Rattle.contexts.specs.Fine.{FineExpression, FineTwo}
 use Rattle.contexts.specs.Parts.{fine-read, fine-two}
 use Rattle.labels.specs.Operand.{operand-words}
@@ -112,7 +113,6 @@ module _ (types arrays bounds : List ℕ) (context : Bool) (best : Fault) where
                   q,
                   r,
                   hp,
-                  operand-words (l - 1) image n f m r .0,
                   operand-words (l - 1) image n f m r .1,
                   place-of (l - 1) image (at + 1) e n q,
                   place-of (l - 1) image n f m r,

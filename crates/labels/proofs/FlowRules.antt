@@ -12,16 +12,18 @@ use Rattle.definitions.specs.declared.Fault.{Fault}
 use Rattle.definitions.specs.Image.{arrayLength, arraySecret, typeSecret, Expression, placeOf}
 use Rattle.definitions.specs.Reading.{Parse, got, refused, readExpression}
 use Rattle.definitions.specs.Faults.{least, faultIf}
-use Rattle.definitions.specs.Labels.{secretIn, labelFaults, argumentLabelFaults, loopBoundFaults, boundedIndex, isConstant, constantValue, unbounded}
+use Rattle.definitions.specs.Labels.{secretIn, labelFaults, argumentLabelFaults, loopBoundFaults, boundedIndex}
+use Rattle.definitions.specs.Labels.{isConstant, constantValue, unbounded}
 use Rattle.laws.specs.Least.{least-append}
-use Rattle.opening.specs.Parses.{ok, endOf, got-ok, end-of}
-use Rattle.opening.specs.Places.{place-of}
+use Rattle.laws.specs.Parses.{ok, endOf, got-ok, end-of}
+use Rattle.laws.specs.Places.{place-of}
 use Rattle.contexts.specs.Fine.{FineExpression, argumentsLeft}
 use Rattle.contexts.specs.StatementParts.{no-argument, first-argument, fine-argument, fine-arguments}
 use Rattle.labels.specs.Late.{least-late}
 use Rattle.labels.specs.Operand.{constantAt, valueAt, insideAt, operand-words}
 use Rattle.labels.specs.Walk.{label, labelled, indexNoted}
-use Rattle.labels.specs.Flows.{ending, limiting, flowed, stored, conditioned, argued, arguedAll, bounding, limited}
+use Rattle.labels.specs.Flows.{ending, limiting, flowed, stored, conditioned, argued, arguedAll, bounding}
+use Rattle.labels.specs.Flows.{limited}
 use Rattle.labels.specs.declared.expressions.Labelled.{Labelled}
 use Rattle.labels.specs.declared.flows.Ended.{Ended}
 use Rattle.labels.proofs.ExpressionRules.{labelled-next}

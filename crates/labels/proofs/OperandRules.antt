@@ -58,14 +58,13 @@ unfolding indexNoted
 index-noted image arrays bounds context a at secret best found r size bounded hf hs hb hr = rw (hr, hb, hs, hf)
 
 pub operator-noted : (image : List ℕ) (publics : ℕ) (context : Bool) (left : ℕ) (leftSecret : Bool) (right : ℕ) (rightSecret : Bool)
-    (best first second r : Fault) (constant : Bool) (divisor : ℕ) → constant ≡ constantAt image right → divisor ≡ valueAt image right
+    (best first second r : Fault) (divisor : ℕ) → divisor ≡ valueAt image right
     → first ≡ least best (faultIf (eqb publics 2 && leftSecret) 10 left)
     → second ≡ least first (faultIf (leb 1 publics && rightSecret) 10 right)
-    → r ≡ least second (faultIf (context && (eqb publics 2 && not (constant && not (eqb divisor 0)))) 11 right)
+    → r ≡ least second (faultIf (context && (eqb publics 2 && eqb divisor 0)) 11 right)
     → r ≡ operatorNoted image publics context left leftSecret right rightSecret best
 unfolding operatorNoted
-operator-noted image publics context left leftSecret right rightSecret best first second r constant divisor hc hd h1 h2 h3 =
-    rw (h3, h2, h1, hc, hd)
+operator-noted image publics context left leftSecret right rightSecret best first second r divisor hd h1 h2 h3 = rw (h3, h2, h1, hd)
 
 pub ruleset value·rules = (value-constant, value-raw, value-none)
 

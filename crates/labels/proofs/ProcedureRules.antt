@@ -2,7 +2,7 @@
 use Prim.Native.Nat.{ℕ, suc, _+_, _-_, _≤_, _<_}
 use native.Mathlib.Omega.{arith}
 use mathlib.Core.Bool.{Bool, true, false}
-use mathlib.Core.List.{List, [], _∷_}
+use mathlib.Core.List.{List, [], _∷_, flatMap}
 use mathlib.Core.Path.{_≡_, refl, sym, ap, _∙_}
 use borrow.Author.Tests.{ne-eqb}
 use lib.Dec.{eqb}
@@ -10,20 +10,22 @@ use lib.ListN.{length, getD, take, drop, replicate, drop-of-length-le}
 use lib.Seq.{drop-cons}
 use native.Mathlib.Numerals.{add-one}
 use Rattle.definitions.specs.declared.Fault.{Fault}
-use Rattle.definitions.specs.Image.{modeOf, parametersOf, localsOf, largestLevel, Block, Procedure, Image, procedureAt, noProcedure, formOf, arraysOf, proceduresOf}
+use Rattle.definitions.specs.Image.{modeOf, parametersOf, localsOf, largestLevel, Block, Procedure, Image, procedureAt}
+use Rattle.definitions.specs.Image.{noProcedure, formOf, arraysOf, proceduresOf}
 use Rattle.definitions.specs.Reading.{Parse, got, readBlock, readImage}
-use Rattle.laws.specs.Least.{least-append}
-use Rattle.opening.specs.Parses.{ok, got-ok}
 use Rattle.definitions.specs.Faults.{least}
 use Rattle.definitions.specs.Labels.{procedureLabelFaults, proceduresLabelFaults, imageLabelFaults}
-use Rattle.opening.specs.Procedures.{ProcedureWords}
+use Rattle.laws.specs.Least.{least-append}
+use Rattle.laws.specs.Parses.{ok, got-ok}
+use Rattle.laws.specs.ReadImages.{ProcedureWords}
 use Rattle.reader.specs.Tables.{Filled}
-use Rattle.signatures.specs.Signatures.{imageIn}
+use Rattle.laws.specs.ImageIn.{imageIn, proceduresIn, image-in, image-words, arrays-inside, procedures-limit}
+use Rattle.laws.specs.ImageIn.{slice-words}
 use Rattle.contexts.specs.Fine.{FineBlock}
 use Rattle.contexts.specs.StatementParts.{fine-read-block}
-use Rattle.labels.specs.Callees.{proceduresIn, Callees}
+use Rattle.labels.specs.Callees.{Callees}
 use Rattle.labels.specs.Blocks.{noBounds, walkedBlock}
-use Rattle.labels.specs.Known.{words-part, filled-words, callees-known, image-in, image-words, few-procedures, judged}
+use Rattle.labels.specs.Known.{filled-words, callees-known, judged}
 use Rattle.labels.specs.declared.statements.Walked.{Walked}
 
 pub source-level : (form : ℕ) → form ≡ 0 → 32 ≡ largestLevel form
@@ -46,7 +48,7 @@ variables w = parametersOf w + localsOf w
 
 module _ (form : ℕ) (image params places : List ℕ) (me : ℕ) (h : me < length (proceduresIn image))
     (t : Filled form image params places (proceduresIn image)) (p : ℕ) (e : p ≡ getD places me 0) where
-  words : (m : ℕ) × ProcedureWords form params me image p (procedureAt (proceduresIn image) me) m
+  words : (m : ℕ) × ProcedureWords image form params me p (procedureAt (proceduresIn image) me) m
   words = rw e (filled-words form image params places (proceduresIn image) t me h)
 
   pub procedure-begins : p + 1 < length image
@@ -82,13 +84,13 @@ module _ (form : ℕ) (image params places : List ℕ) (me : ℕ) (h : me < leng
     procedure-labelled arrays best r a f g =
         let (m, w) = words in
         let (n, b) = body-reads in
-        g ∙ rw (words-part image (p + 1 + 1) (variables (getD image p 0)) _ _ (w .types) types-within, ← w .result, ← w .mode, k, b, a, f)
+        g ∙ rw (slice-words image (p + 1 + 1) (variables (getD image p 0)) _ _ (w .types) types-within, ← w .result, ← w .mode, k, b, a, f)
 
 -- ---- the procedures that are left
 
 module _ (tree : Image) (me : ℕ) (found : Fault) (X : Fault) (d : least found (proceduresLabelFaults tree (drop me (tree .procedures))) ≡ X) where
   pub procedures-done : (count : ℕ) → count ≡ length (tree .procedures) → count ≤ me → found ≡ X
-  unfolding proceduresLabelFaults least
+  unfolding proceduresLabelFaults flatMap least
   procedures-done count e h =
       let z : drop me (tree .procedures) ≡ [] = drop-of-length-le (tree .procedures) {i = me} (omega arith) in
       sym (ap (λ k. least found (proceduresLabelFaults tree k)) z) ∙ d
@@ -96,7 +98,7 @@ module _ (tree : Image) (me : ℕ) (found : Fault) (X : Fault) (d : least found 
   pub procedures-more : (count : ℕ) → count ≡ length (tree .procedures) → me < count → (r : Fault)
       → r ≡ least found (procedureLabelFaults tree (procedureAt (tree .procedures) me))
       → least r (proceduresLabelFaults tree (drop (me + 1) (tree .procedures))) ≡ X
-  unfolding proceduresLabelFaults
+  unfolding proceduresLabelFaults flatMap
   procedures-more count e h r g =
       let z : drop me (tree .procedures) ≡ procedureAt (tree .procedures) me ∷ drop (suc me) (tree .procedures)
       = drop-cons (tree .procedures) me noProcedure (omega arith) in
@@ -115,12 +117,7 @@ module _ (image : List ℕ) (t : ok (readImage true image) ≡ true) where
   header-there = let (n, w) = image-words image t in let s = w .some in omega arith
 
   pub arrays-within : 1 + arraysOf (getD image 0 0) ≤ length image
-  arrays-within =
-      let (n, w) = image-words image t in
-      let s = w .some in
-      let a = w .arrays .words .after in
-      let k = w .arrays .words .within (omega arith) in
-      omega arith
+  arrays-within = arrays-inside (image-words image t .1)
 
   pub image-known : (params places : List ℕ) → 32 ≤ length params → Filled (imageIn image .form) image params places (proceduresIn image)
       → (proceduresOf (getD image 0 0) ≡ length (proceduresIn image)) × (proceduresOf (getD image 0 0) ≤ length params)
@@ -128,8 +125,8 @@ module _ (image : List ℕ) (t : ok (readImage true image) ≡ true) where
       × Filled (formOf (getD image 0 0)) image params places (proceduresIn image)
   image-known params places h f =
       let (n, w) = image-words image t in
-      let c = few-procedures (getD image 0 0) (w .header) in
-      (sym (w .count), omega arith, words-part image 1 (arraysOf (getD image 0 0)) _ _ (w .arrays .words) arrays-within, sym (w .form), rw (← w .form) f)
+      let c = procedures-limit w in
+      (sym (w .count), omega arith, slice-words image 1 (arraysOf (getD image 0 0)) _ _ (w .arrays .words) arrays-within, sym (w .form), rw (← w .form) f)
 
   pub image-judged : (best r : Fault) → r ≡ least best (imageLabelFaults (imageIn image)) → r ≡ judged best (readImage true image)
   unfolding judged

@@ -8,19 +8,24 @@ use lib.Dec.{eqb}
 use lib.ListN.{length, getD, set}
 use lib.Seq.{set-out, set-set, set-getD}
 use Rattle.definitions.specs.declared.Fault.{Fault}
-use Rattle.definitions.specs.Image.{payloadOf, opOf, targetOf, calledOf, resultOf, typeSecret, Expression, Statement, assign, store, conditional, loop, return, call, Block, step, Procedure, procedureAt}
+use Rattle.definitions.specs.Image.{payloadOf, opOf, targetOf, calledOf, resultOf, typeSecret, Expression, Statement}
+use Rattle.definitions.specs.Image.{assign, store, conditional, loop, return, call, Block, sequence, Procedure}
+use Rattle.definitions.specs.Image.{procedureAt}
 use Rattle.definitions.specs.Reading.{Parse, got, refused, readExpression, readArguments, readStatement, readBlock}
 use Rattle.definitions.specs.Faults.{least, faultIf}
-use Rattle.definitions.specs.Labels.{secretIn, labelFaults, loopBoundFaults, boundsInside, rcAfter, rcAfterBlock, statementLabelFaults, blockLabelFaults}
+use Rattle.definitions.specs.Labels.{secretIn, labelFaults, loopBoundFaults, boundsInside, rcAfter, rcAfterBlock}
+use Rattle.definitions.specs.Labels.{statementLabelFaults, blockLabelFaults}
 use Rattle.laws.specs.Least.{least-append}
-use Rattle.opening.specs.Parses.{ok, endOf, end-of}
-use Rattle.opening.specs.Statements.{open-assign, open-store, open-if, open-for, open-return, open-last-op}
+use Rattle.laws.specs.Parses.{ok, endOf, end-of}
+use Rattle.laws.specs.StatementInversion.{open-assign, open-store, open-if, open-for, open-return, open-last-op}
 use Rattle.contexts.specs.Fine.{FineStatement, FineBlock, argumentsLeft, statementsLeft}
-use Rattle.contexts.specs.StatementParts.{no-statement, first-statement, fine-statement, fine-statements, block-left, fine-then, fine-else, fine-body, fine-called}
+use Rattle.contexts.specs.StatementParts.{no-statement, first-statement, fine-statement, fine-statements, block-left}
+use Rattle.contexts.specs.StatementParts.{fine-then, fine-else, fine-body, fine-called}
 use Rattle.contexts.specs.Context.{passedBlock}
 use Rattle.contexts.specs.declared.Passed.{Passed}
+use Rattle.laws.specs.ImageIn.{proceduresIn}
 use Rattle.labels.specs.Flows.{flowed, stored, conditioned, limited}
-use Rattle.labels.specs.Callees.{proceduresIn, Callee, Callees, callee-of, calling}
+use Rattle.labels.specs.Callees.{Callee, Callees, callee-of, calling}
 use Rattle.labels.specs.Blocks.{walk, walked, walkedBlock}
 use Rattle.labels.specs.declared.expressions.Labelled.{Labelled}
 use Rattle.labels.specs.declared.flows.Ended.{Ended}
@@ -232,7 +237,7 @@ module _ (form : ℕ) (ps : List Procedure) (arrays types : List ℕ) (result : 
           let (c, m, b, o, q, r, v) = first-statement (n - j) l params me image at t (omega arith) in go c m b o q r v
         where
           go : (c : Statement) (m : ℕ) (b : Block) (o : ℕ) → readStatement l params me image at ≡ got c m
-              → statementsLeft (n - j - 1) l params me image m ≡ got b o → statementsLeft (n - j) l params me image at ≡ got (step at c b) o
+              → statementsLeft (n - j - 1) l params me image m ≡ got b o → statementsLeft (n - j) l params me image at ≡ got (sequence at c b) o
               → walkedBlock form ps arrays types result after pc (s .rc) (s .best) (statementsLeft (n - (j + 1)) l params me image (s .next)) ≡ X
           go c m b o q r v =
               let z : n - (j + 1) ≡ n - j - 1 = omega arith in

@@ -1,25 +1,21 @@
 -- What a call has to know of the procedure that it names, by the words at that procedure's place. Assumes nothing.
-use Prim.Native.Nat.{ℕ, zero, suc, _+_, _-_, _≤_, _<_}
+use Prim.Native.Nat.{ℕ, _+_, _-_, _≤_, _<_}
 use native.Mathlib.Omega.{arith}
 use mathlib.Core.Bool.{Bool, true, _&&_, _||_, not}
 use mathlib.Core.List.{List, [], _∷_, _++_}
-use mathlib.Core.Path.{_≡_, refl, ap}
+use mathlib.Core.Path.{_≡_, refl}
 use lib.ListN.{length, getD}
 use Rattle.definitions.specs.declared.Fault.{Fault}
 use Rattle.definitions.specs.Image.{typeSecret, modeOf, calledOf, resultOf, Expression, Procedure, guarded, procedureAt}
-use Rattle.definitions.specs.Reading.{Parse, got, refused, Reader, readExpression, readArguments}
+use Rattle.definitions.specs.Reading.{Parse, got, refused}
 use Rattle.definitions.specs.Faults.{least, faultIf}
 use Rattle.definitions.specs.Labels.{argumentLabelFaults}
-use Rattle.opening.specs.Parses.{ok}
-use Rattle.opening.specs.Places.{Holds, held, none, holds-then, holds-got}
-use Rattle.signatures.specs.Signatures.{imageIn}
+use Rattle.laws.specs.Parses.{ok}
+use Rattle.laws.specs.Reads.{read-as, reads-arguments}
+use Rattle.laws.specs.ImageIn.{proceduresIn}
 use Rattle.contexts.specs.Fine.{argumentsLeft}
 use Rattle.labels.specs.Flows.{ending}
 use Rattle.labels.specs.declared.flows.Ended.{Ended}
-
--- the procedures of the image that words spell
-abbrev pub proceduresIn : List ℕ → List Procedure
-proceduresIn image = imageIn image .procedures
 
 -- the words at a place are those of a procedure, as far as a call with n arguments asks
 pub record Callee (image : List ℕ) (p : Procedure) (n place : ℕ) : Type 0 where
@@ -63,16 +59,6 @@ arguments-same types arrays bounds context c d k (e ∷ es) h =
     rw (h k (omega arith), arguments-same types arrays bounds context c d (k + 1) es (λ j b. h j (omega arith)))
 
 -- as many arguments are read as are asked for
-any-part : {A : Type 0} (x : Parse A) → Holds (λ a n. n ≡ n) x
-any-part (got a n) = held a n refl
-any-part (refused n p) = none
-
-arguments-counted : (n : ℕ) (operand : Reader Expression) (at : ℕ) → Holds (λ es o. length es ≡ n) (readArguments n operand at)
-unfolding readArguments
-arguments-counted zero operand at = held [] at refl
-arguments-counted (suc n) operand at =
-    holds-then (any-part (operand at)) (λ e m _. holds-then (arguments-counted n operand m) (λ es o c. held (e ∷ es) o (ap suc c)))
-
 pub arguments-count : (n l : ℕ) (image : List ℕ) (at : ℕ) (es : List Expression) (o : ℕ) → argumentsLeft n l image at ≡ got es o → length es ≡ n
 unfolding argumentsLeft
-arguments-count n l image at es o q = holds-got (arguments-counted n (λ a. readExpression l image a) at) q
+arguments-count n l image at es o q = read-as (rw q at (reads-arguments image l n at)) .count

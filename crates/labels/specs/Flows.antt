@@ -1,5 +1,5 @@
 -- What the walk of a statement's own expressions gives: what the definitions say of their trees in that place. Assumes nothing.
-use Prim.Native.Nat.{ℕ, _+_}
+use Prim.Native.Nat.{ℕ}
 use mathlib.Core.Bool.{Bool, false, _&&_, _||_, not}
 use mathlib.Core.List.{List, _++_}
 use lib.Dec.{eqb}
@@ -9,7 +9,8 @@ use Rattle.definitions.specs.declared.Fault.{Fault}
 use Rattle.definitions.specs.Image.{arraySecret, Expression, placeOf}
 use Rattle.definitions.specs.Reading.{Parse, got, refused}
 use Rattle.definitions.specs.Faults.{least, faultIf}
-use Rattle.definitions.specs.Labels.{secretIn, labelFaults, indexFaults, argumentLabelFaults, loopBoundFaults, isConstant, constantValue, unbounded}
+use Rattle.definitions.specs.Labels.{secretIn, labelFaults, indexFaults, argumentLabelFaults, loopBoundFaults}
+use Rattle.definitions.specs.Labels.{isConstant, constantValue, unbounded}
 use Rattle.labels.specs.Walk.{label}
 use Rattle.labels.specs.declared.expressions.Labelled.{Labelled}
 use Rattle.labels.specs.declared.flows.Ended.{Ended}

@@ -1,6 +1,6 @@
 -- What the words of an operand say of it: whether it is a constant, its value, whether it is bounded as an index.
 -- Its tree says the same (`operand-words`). Assumes nothing.
-use Prim.Native.Nat.{ℕ, _+_, _-_}
+use Prim.Native.Nat.{ℕ, _+_}
 use mathlib.Core.Bool.{Bool, true, false, _&&_, _||_}
 use mathlib.Core.List.{List}
 use mathlib.Core.Path.{_≡_, refl}
@@ -8,11 +8,13 @@ use borrow.Author.Tests.{eqb-true, eqb-false}
 use lib.Dec.{eqb, ltb, leb}
 use lib.ListN.{getD}
 use Rattle.definitions.specs.Choice.{pick}
-use Rattle.definitions.specs.Image.{kindOf, payloadOf, Expression, constant, boolean, variable, cell, unary, binary, select}
+use Rattle.definitions.specs.Image.{kindOf, payloadOf, Expression, constant, boolean, variable, cell, unary, binary}
+use Rattle.definitions.specs.Image.{select}
 use Rattle.definitions.specs.Reading.{got, readExpression}
 use Rattle.definitions.specs.Labels.{isConstant, constantValue, boundedIndex, unbounded}
-use Rattle.opening.specs.Parses.{ok, ok-of, got-same}
-use Rattle.opening.specs.Expressions.{open-constant, open-raw, open-boolean, open-variable, open-cell, open-unary, open-binary, open-select, last-kind}
+use Rattle.laws.specs.Parses.{ok, ok-of, got-same}
+use Rattle.laws.specs.ExpressionInversion.{open-constant, open-raw, open-boolean, open-variable, open-cell, open-unary}
+use Rattle.laws.specs.ExpressionInversion.{open-binary, open-select, last-kind}
 
 unfoldable pub constantAt : List ℕ → ℕ → Bool
 constantAt image at = eqb (kindOf (getD image at 0)) 7 || eqb (kindOf (getD image at 0)) 8

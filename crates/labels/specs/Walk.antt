@@ -6,11 +6,11 @@ use lib.Dec.{eqb, leb}
 use lib.ListN.{getD}
 use Rattle.definitions.specs.declared.Fault.{Fault}
 use Rattle.definitions.specs.Image.{arrayLength, Expression}
-use Rattle.definitions.specs.Operators.{both, count}
+use Rattle.definitions.specs.Operators.{both}
 use Rattle.definitions.specs.Reading.{Parse, got, refused}
 use Rattle.definitions.specs.Faults.{least, faultIf}
 use Rattle.definitions.specs.Labels.{secretIn, labelFaults}
-use Rattle.labels.specs.Operand.{constantAt, valueAt, boundedAt}
+use Rattle.labels.specs.Operand.{valueAt, boundedAt}
 use Rattle.labels.specs.declared.expressions.Labelled.{Labelled}
 
 abbrev pub label : Bool → ℕ → Fault → Labelled
@@ -38,5 +38,5 @@ indexNoted image arrays bounds context a at secret best =
 unfoldable pub operatorNoted : List ℕ → ℕ → Bool → ℕ → Bool → ℕ → Bool → Fault → Fault
 operatorNoted image publics context left leftSecret right rightSecret best =
     least
-    (least (least best (faultIf (eqb publics both && leftSecret) 10 left)) (faultIf (leb count publics && rightSecret) 10 right))
-    (faultIf (context && (eqb publics both && not (constantAt image right && not (eqb (valueAt image right) 0)))) 11 right)
+    (least (least best (faultIf (eqb publics both && leftSecret) 10 left)) (faultIf (leb 1 publics && rightSecret) 10 right))
+    (faultIf (context && (eqb publics both && eqb (valueAt image right) 0)) 11 right)

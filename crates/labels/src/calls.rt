@@ -6,8 +6,9 @@ ghost use mathlib.Core.Path.{_≡_};
 ghost use Prim.Native.Nat.{_+_, _-_};
 ghost use lib.ListN.{getD};
 ghost use Rattle.definitions.specs.Image.{calledOf};
+ghost use Rattle.laws.specs.ImageIn.{proceduresIn};
 ghost use Rattle.contexts.specs.Fine.{argumentsLeft};
-ghost use Rattle.labels.specs.Callees.{proceduresIn, FineCall, calling};
+ghost use Rattle.labels.specs.Callees.{FineCall, calling};
 
 // A call at a place. `params` and `places` have each procedure's number of parameters and the place of its word.
 pub fn label_call(

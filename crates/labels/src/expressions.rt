@@ -6,7 +6,7 @@ ghost use Prim.Native.Nat.{_<_, _/_, _%_};
 ghost use lib.ListN.{getD, length};
 ghost use Rattle.definitions.specs.Image.{kindOf};
 ghost use Rattle.definitions.specs.Reading.{readExpression};
-ghost use Rattle.opening.specs.Parses.{endOf};
+ghost use Rattle.laws.specs.Parses.{endOf};
 ghost use Rattle.contexts.specs.Fine.{FineExpression, FineTwo};
 ghost use Rattle.labels.specs.Walk.{labelled, labelledTwo, indexNoted, operatorNoted};
 
@@ -51,13 +51,12 @@ fn operator_faults(
     requires { ⌜ right < length (now image) ⌝ }
     ensures { λ r. ⌜ r ≡ operatorNoted (now (image .entry)) publics context left «left_secret» right «right_secret» best ⌝ }
 {
-    let constant = operands::constant_at(image, right);
     let divisor = operands::value_at(image, right);
     let first = faults::note(best, (publics == 2) & left_secret, 10, left);
     let second = faults::note(first, (1 <= publics) & right_secret, 10, right);
     faults::note(
         second,
-        context & ((publics == 2) & !(constant & (divisor != 0))),
+        context & ((publics == 2) & (divisor == 0)),
         11,
         right,
     )

@@ -8,7 +8,7 @@ ghost use mathlib.Core.Bool.{true};
 ghost use Prim.Native.Nat.{_≤_, _<_};
 ghost use lib.ListN.{length};
 ghost use Rattle.definitions.specs.Reading.{readExpression};
-ghost use Rattle.opening.specs.Parses.{ok, endOf};
+ghost use Rattle.laws.specs.Parses.{ok, endOf};
 ghost use Rattle.contexts.specs.Fine.{FineExpression, FineTwo, argumentsLeft};
 ghost use Rattle.labels.specs.Operand.{insideAt};
 ghost use Rattle.labels.specs.Flows.{flowed, stored, conditioned, argued, arguedAll, bounding, limited};

@@ -10,11 +10,11 @@ ghost use Rattle.definitions.specs.Image.{procedureAt, largestLevel};
 ghost use Rattle.definitions.specs.Reading.{readBlock, readImage};
 ghost use Rattle.definitions.specs.Faults.{least};
 ghost use Rattle.definitions.specs.Labels.{procedureLabelFaults, imageLabelFaults};
-ghost use Rattle.opening.specs.Parses.{ok};
+ghost use Rattle.laws.specs.Parses.{ok};
 ghost use Rattle.reader.specs.Tables.{Filled};
 ghost use Rattle.contexts.specs.Fine.{FineBlock};
-ghost use Rattle.signatures.specs.Signatures.{imageIn};
-ghost use Rattle.labels.specs.Callees.{proceduresIn, Callees};
+ghost use Rattle.laws.specs.ImageIn.{imageIn, proceduresIn};
+ghost use Rattle.labels.specs.Callees.{Callees};
 ghost use Rattle.labels.specs.Known.{judged};
 ghost use Rattle.labels.specs.Blocks.{noBounds, walkedBlock};
 

@@ -8,8 +8,9 @@ ghost use Prim.Native.Nat.{_<_};
 ghost use lib.ListN.{getD, set};
 ghost use Rattle.definitions.specs.Image.{opOf};
 ghost use Rattle.definitions.specs.Reading.{readStatement, readBlock};
+ghost use Rattle.laws.specs.ImageIn.{proceduresIn};
 ghost use Rattle.contexts.specs.Fine.{FineStatement, FineBlock};
-ghost use Rattle.labels.specs.Callees.{proceduresIn, Callees};
+ghost use Rattle.labels.specs.Callees.{Callees};
 ghost use Rattle.labels.specs.Blocks.{walked, walkedBlock};
 
 // What the walk of a statement or a block gives: the rc after it, the place after it, the lowest fault so far.

@@ -1,6 +1,6 @@
 -- The answer that Faults picks is the least of all faults of its group: it is one of them, and none has a lower place, or on its word a lower number.
 -- Assumes nothing.
-use Prim.Native.Nat.{ℕ, zero, suc, _+_, _≤_, _<_}
+use Prim.Native.Nat.{_≤_, _<_}
 use native.Mathlib.Omega.{arith}
 use mathlib.Core.Path.{_≡_, refl, sym, _∙_}
 use mathlib.Core.Bool.{Bool, true, false, _&&_, _||_, not}
@@ -10,7 +10,7 @@ use lib.Dec.{ltb, eqb}
 use borrow.Author.Tests.{ltb-true, ltb-false, eqb-true, eqb-false}
 use Rattle.definitions.specs.Choice.{pick}
 use Rattle.definitions.specs.declared.Fault.{Fault}
-use Rattle.definitions.specs.Faults.{fault, noFault, before, lower, least, faultIf}
+use Rattle.definitions.specs.Faults.{noFault, before, lower, least}
 
 -- a fault is one of a list
 pub data Among (f : Fault) : List Fault → Type 0 where
@@ -76,7 +76,7 @@ least-low (g ∷ fs) b f (there m) = least-low fs (lower b g) f m
 
 -- the lower of two faults is one of them
 lower-one : (a b : Fault) → (lower a b ≡ a) ⊎ (lower a b ≡ b)
-lower-one a b = go (before a b)
+lower-one a b = go (before b a)
   where
     go : (t : Bool) → (pick t b a ≡ a) ⊎ (pick t b a ≡ b)
     go true = inr refl

@@ -1,16 +1,16 @@
 -- The rules of the loop over the statements of a block. Assumes nothing.
-use Prim.Native.Nat.{ℕ, _+_, _*_, _-_, _/_, _%_, _≤_, _<_}
-use mathlib.Core.Bool.{Bool, true, false, _||_}
-use mathlib.Core.List.{List, [], _∷_, _++_}
-use mathlib.Core.Path.{_≡_, refl, sym, ap, _∙_}
+use Prim.Native.Nat.{ℕ, _+_, _-_, _≤_, _<_}
+use mathlib.Core.Bool.{Bool, true}
+use mathlib.Core.List.{List}
+use mathlib.Core.Path.{_≡_, sym, ap, _∙_}
 use native.Mathlib.Omega.{arith}
 use lib.ListN.{length, getD}
-use Rattle.definitions.specs.Image.{payloadOf, Statement, Block, done, step}
+use Rattle.definitions.specs.Image.{payloadOf, Statement, Block, done, sequence}
 use Rattle.definitions.specs.Reading.{Parse, got, refused, readStatement, readBlock}
 use Rattle.definitions.specs.Labels.{rcAfter, rcAfterBlock}
 use Rattle.definitions.specs.Compiling.{temporaries, blockTemporaries}
-use Rattle.opening.specs.Parses.{ok, endOf}
-use Rattle.tape.specs.Tape.{Tape, writes}
+use Rattle.laws.specs.Parses.{ok, endOf}
+use Rattle.tape.specs.Tape.{Tape}
 use Rattle.tape.specs.Laws.{writes-nil, writes-app}
 use Rattle.contexts.specs.Fine.{FineStatement, statementsLeft}
 use Rattle.contexts.specs.StatementParts.{no-statement, first-statement, fine-statement, fine-statements, block-left}
@@ -31,7 +31,7 @@ none-left cs arrays types pc rc o out m = ap (λ (z : Tape). typing m rc z) (wri
 then-left : (cs arrays types : List ℕ) (pc rc : Bool) (o : ℕ) (out : List ℕ) (p : ℕ) (s : Statement) (b : Block) (m i : ℕ)
     → typedBlock cs arrays types pc (typed cs arrays types pc rc o out (got s i) .0 .rc) (typed cs arrays types pc rc o out (got s i) .0 .o)
     (typed cs arrays types pc rc o out (got s i) .1) (got b m)
-    ≡ typedBlock cs arrays types pc rc o out (got (step p s b) m)
+    ≡ typedBlock cs arrays types pc rc o out (got (sequence p s b) m)
 unfolding typed typedBlock temporaries rcAfter
 then-left cs arrays types pc rc o out p s b m i =
     ap (λ (z : Tape). typing m (rcAfterBlock types arrays pc (rcAfter types arrays pc rc s) b) z)

@@ -1,17 +1,18 @@
 -- What each return of the walk that declares the temporaries gives, and what its calls ask. Assumes nothing.
-use Prim.Native.Nat.{ℕ, _+_, _*_, _-_, _/_, _%_, _≤_, _<_}
+use Prim.Native.Nat.{ℕ, _+_, _*_, _-_, _%_, _≤_, _<_}
 use mathlib.Core.Bool.{Bool, true, false, _||_}
 use mathlib.Core.List.{List, [], _∷_, _++_, append-assoc}
 use mathlib.Core.Path.{_≡_, refl, sym, ap, _∙_}
 use borrow.Author.Tests.{eqb-true, eqb-false}
 use lib.Dec.{eqb}
 use lib.ListN.{length, getD}
-use Rattle.definitions.specs.Image.{opOf, targetOf, calledOf, resultOf, typeSort, procedureAt, Expression, Statement, assign, store, conditional, loop, return, call, Block}
+use Rattle.definitions.specs.Image.{opOf, targetOf, calledOf, resultOf, Expression, Statement, assign, store}
+use Rattle.definitions.specs.Image.{conditional, return, call, Block}
 use Rattle.definitions.specs.Reading.{Parse, got, refused, readExpression, readStatement, readBlock}
 use Rattle.definitions.specs.Labels.{secretIn, rcAfter, rcAfterBlock}
-use Rattle.definitions.specs.Compiling.{secretOf, ifTemporaries, callTemporary, temporaries, blockTemporaries}
-use Rattle.opening.specs.Parses.{ok, got-ok, endOf, end-of, false-true}
-use Rattle.opening.specs.Statements.{open-assign, open-store, open-if, open-for, open-return, open-call, last-op}
+use Rattle.definitions.specs.Compiling.{ifTemporaries, callTemporary, temporaries, blockTemporaries}
+use Rattle.laws.specs.Parses.{ok, endOf, end-of}
+use Rattle.laws.specs.StatementInversion.{open-assign, open-store, open-if, open-for, open-return, open-call, last-op}
 use Rattle.tape.specs.Tape.{Tape, write, writes}
 use Rattle.tape.specs.Laws.{writes-nil, writes-one, writes-app}
 use Rattle.contexts.specs.Fine.{FineBlock}

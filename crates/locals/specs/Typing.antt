@@ -1,7 +1,7 @@
 -- What the walk that declares the temporaries leaves of a part that was read: the places after it, the rc after it, and the type words of its
 -- temporaries on the tape. Assumes nothing.
 use Prim.Native.Nat.{ℕ}
-use mathlib.Core.Bool.{Bool, true, false}
+use mathlib.Core.Bool.{Bool}
 use mathlib.Core.List.{List}
 use Rattle.definitions.specs.Image.{Statement, Block}
 use Rattle.definitions.specs.Reading.{Parse, got, refused}

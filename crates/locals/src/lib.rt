@@ -5,7 +5,7 @@ ghost use lib.ListN.{length, getD};
 ghost use Rattle.definitions.specs.Image.{opOf};
 ghost use Rattle.definitions.specs.Reading.{readStatement, readBlock};
 ghost use Rattle.definitions.specs.Compiling.{ifTemporaries, callTemporary};
-ghost use Rattle.opening.specs.Parses.{ok};
+ghost use Rattle.laws.specs.Parses.{ok};
 ghost use Rattle.tape.specs.Tape.{writes};
 ghost use Rattle.contexts.specs.Fine.{FineStatement, FineBlock, statementsLeft};
 ghost use Rattle.emission.specs.Callees.{calleesOf};

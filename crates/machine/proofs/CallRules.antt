@@ -9,10 +9,9 @@ use Rattle.definitions.specs.Bytes.{wordsOf}
 use Rattle.definitions.specs.Image.{Image, procedureAt}
 use Rattle.definitions.specs.Running.{frame}
 use Rattle.definitions.specs.Requests.{answered, argumentValues, calledOn}
-use Rattle.definitions.specs.declared.Answer.{Answer}
 use Rattle.definitions.specs.declared.Answer.the-variants.{Refused}
 use Rattle.reader.specs.TableLaws.{table-parameters}
-use Rattle.evaluator.specs.Program.{programOf}
+use Rattle.laws.specs.ImageIn.{imageIn}
 use Rattle.words.proofs.Laws.{length-wordsOf}
 use Rattle.machine.specs.declared.Machine.{Machine}
 use Rattle.machine.specs.declared.Turn.{Turn}
@@ -45,7 +44,7 @@ values-agree (v ∷ vs) (t ∷ types) (u ∷ us) h k same =
     ap (λ (w : ℕ). answered w v ∷ argumentValues us vs) first ∙ ap (λ (ws : List ℕ). answered t v ∷ ws) rest
 
 module _ (image places : List ℕ) (f : ℕ) (s : Signed image places f) (place : ℕ) (e : place ≡ getD places f 0) where
-  pub result-is : (r : ℕ) → r ≡ getD image (place + 1) 0 → r ≡ procedureAt (programOf image .procedures) f .result
+  pub result-is : (r : ℕ) → r ≡ getD image (place + 1) 0 → r ≡ procedureAt (imageIn image .procedures) f .result
   result-is r q = q ∙ ap (λ (k : ℕ). getD image (k + 1) 0) e ∙ sym (s .result)
 
   pub types-begin : place + 1 + 1 ≤ length image
@@ -54,7 +53,7 @@ module _ (image places : List ℕ) (f : ℕ) (s : Signed image places f) (place 
   behind-is : take (length image - (place + 1 + 1)) (drop (place + 1 + 1) image) ≡ drop (place + 1 + 1) image
   behind-is = take-all (length image - (place + 1 + 1)) (drop (place + 1 + 1) image) (simp length-drop (omega arith))
 
-  module _ (arguments : List ℕ) (few : length arguments / 4 ≤ length (procedureAt (programOf image .procedures) f .types)) where
+  module _ (arguments : List ℕ) (few : length arguments / 4 ≤ length (procedureAt (imageIn image .procedures) f .types)) where
     pub values-ask : (zeros : List ℕ) → zeros ≡ replicate 255 0
         → (length arguments / 4 ≤ length (take (length image - (place + 1 + 1)) (drop (place + 1 + 1) image))) × (length arguments / 4 ≤ 255)
         × (zeros ≡ replicate 255 0)
@@ -62,11 +61,11 @@ module _ (image places : List ℕ) (f : ℕ) (s : Signed image places f) (place 
 
     pub values-are : (after : List ℕ)
         → after ≡ frame (argumentValues (take (length image - (place + 1 + 1)) (drop (place + 1 + 1) image)) (wordsOf arguments))
-        → after ≡ frame (argumentValues (procedureAt (programOf image .procedures) f .types) (wordsOf arguments))
+        → after ≡ frame (argumentValues (procedureAt (imageIn image .procedures) f .types) (wordsOf arguments))
     values-are after q =
         let n : length (wordsOf arguments) ≡ length arguments / 4 = length-wordsOf arguments in
         q ∙ ap (λ (us : List ℕ). frame (argumentValues us (wordsOf arguments))) behind-is
-        ∙ ap frame (values-agree (wordsOf arguments) (procedureAt (programOf image .procedures) f .types) (drop (place + 1 + 1) image)
+        ∙ ap frame (values-agree (wordsOf arguments) (procedureAt (imageIn image .procedures) f .types) (drop (place + 1 + 1) image)
         (omega arith) (rw length-drop (omega (arith, s .within)))
         (λ i b. getD-drop (place + 1 + 1) image i 0 ∙ ap (λ (k : ℕ). getD image (k + 1 + 1 + i) 0) e ∙ sym (s .type i (omega arith))))
 
@@ -79,42 +78,42 @@ run-given m r before after tree f types ws given budget room e h t =
     rw (← (ran-framed tree (held m) f (argumentValues types ws) budget room (rw length-values h)), ← e) t
 
 module _ (m : Machine) (image params places ends : List ℕ) (s : Serves image params places ends (m .count)) (f : ℕ) (arguments : List ℕ) where
-  pub values-fit : f < length (programOf image .procedures) → length arguments / 4 ≡ getD params f 0
-      → length arguments / 4 ≤ length (procedureAt (programOf image .procedures) f .types)
+  pub values-fit : f < length (imageIn image .procedures) → length arguments / 4 ≡ getD params f 0
+      → length arguments / 4 ≤ length (procedureAt (imageIn image .procedures) f .types)
   values-fit h e = omega (arith, parameters-among image params places ends f (m .count) s h)
 
-  pub words-few : f < length (programOf image .procedures) → length arguments / 4 ≡ getD params f 0 → length (wordsOf arguments) ≤ 255
+  pub words-few : f < length (imageIn image .procedures) → length arguments / 4 ≡ getD params f 0 → length (wordsOf arguments) ≤ 255
   words-few h e = omega (arith, values-fit h e, signed image params places ends f (m .count) s h .few, length-wordsOf arguments)
 
   -- ---- the call
 
-  module _ (count : ℕ) (c : count ≡ length (programOf image .procedures)) (budget : ℕ) (before : List ℕ) where
+  module _ (count : ℕ) (c : count ≡ length (imageIn image .procedures)) (budget : ℕ) (before : List ℕ) where
     pub call-none : count ≤ f
         → TurnedCall m (record { machine = m; answer = Refused 17 0 }) before before
-        (calledOn (programOf image) (held m) f (wordsOf arguments) budget (length (wordsOf before)))
-    call-none h = no-procedure m (programOf image) f (wordsOf arguments) budget (length (wordsOf before)) before (omega arith)
+        (calledOn (imageIn image) (held m) f (wordsOf arguments) budget (length (wordsOf before)))
+    call-none h = no-procedure m (imageIn image) f (wordsOf arguments) budget (length (wordsOf before)) before (omega arith)
 
     module _ (h : f < count) (n : ℕ) (e : n ≡ getD params f 0) where
-      same-count : n ≡ procedureAt (programOf image .procedures) f .parameters
-      same-count = e ∙ table-parameters image (programOf image) params places ends (s .tables) f (omega arith)
+      same-count : n ≡ procedureAt (imageIn image .procedures) f .parameters
+      same-count = e ∙ table-parameters image (imageIn image) params places ends (s .tables) f (omega arith)
 
       pub call-count : (length arguments / 4 ≡ n → ⊥)
           → TurnedCall m (record { machine = m; answer = Refused 18 0 }) before before
-          (calledOn (programOf image) (held m) f (wordsOf arguments) budget (length (wordsOf before)))
+          (calledOn (imageIn image) (held m) f (wordsOf arguments) budget (length (wordsOf before)))
       call-count g =
-          wrong-count m (programOf image) f (wordsOf arguments) budget (length (wordsOf before)) before (omega arith)
+          wrong-count m (imageIn image) f (wordsOf arguments) budget (length (wordsOf before)) before (omega arith)
           (λ q. g (sym (length-wordsOf arguments) ∙ q ∙ sym same-count))
 
-      pub call-asks : length arguments / 4 ≡ n → (f < length (programOf image .procedures)) × (length arguments / 4 ≡ getD params f 0)
+      pub call-asks : length arguments / 4 ≡ n → (f < length (imageIn image .procedures)) × (length arguments / 4 ≡ getD params f 0)
       call-asks g = (omega arith, g ∙ e)
 
       pub call-ran : length arguments / 4 ≡ n → (r : Turn) (after : List ℕ)
           → TurnedCall m r before after
-          (ranOn (programOf image) (held m) f (argumentValues (procedureAt (programOf image .procedures) f .types) (wordsOf arguments)) budget (length before / 4))
-          → TurnedCall m r before after (calledOn (programOf image) (held m) f (wordsOf arguments) budget (length (wordsOf before)))
+          (ranOn (imageIn image) (held m) f (argumentValues (procedureAt (imageIn image .procedures) f .types) (wordsOf arguments)) budget (length before / 4))
+          → TurnedCall m r before after (calledOn (imageIn image) (held m) f (wordsOf arguments) budget (length (wordsOf before)))
       call-ran g r after t =
           rw (
-            called-runs (programOf image) (held m) f (wordsOf arguments) budget (length (wordsOf before)) (omega arith)
+            called-runs (imageIn image) (held m) f (wordsOf arguments) budget (length (wordsOf before)) (omega arith)
                 (length-wordsOf arguments ∙ g ∙ same-count),
             length-wordsOf before,
           ) t

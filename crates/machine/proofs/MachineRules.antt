@@ -1,23 +1,19 @@
 -- Each way in which a request on an accepted image ends. Assumes nothing.
 use mathlib.Core.Path.{_≡_, refl, sym, ap, _∙_}
-use mathlib.Core.Bool.{true, false}
 use mathlib.Core.List.{List, _++_}
 use Prim.Native.Nat.{ℕ, _+_, _-_, _≤_, _<_}
 use native.Mathlib.Omega.{arith}
-use lib.ListN.{length, getD, set, take, replicate, length-replicate, replicate-append-replicate}
+use lib.ListN.{getD, set, take, replicate, length-replicate, replicate-append-replicate}
 use lib.Seq.{take-at, take-set-lt, getD-take}
-use Rattle.definitions.specs.Image.{cellCount, baseOf}
-use Rattle.definitions.specs.Requests.{Served, carriedOut}
-use Rattle.definitions.specs.declared.Answer.{Answer}
+use Rattle.definitions.specs.Image.{baseOf}
 use Rattle.definitions.specs.declared.Answer.the-variants.{Done, Refused}
 use Rattle.requests.specs.declared.cells.Slot.{Slot}
 use Rattle.requests.specs.declared.cells.Slot.the-variants.{At, Nothing}
-use Rattle.machine.specs.declared.Machine.{Machine}
-use Rattle.machine.specs.declared.Turn.{Turn}
-use Rattle.requests.specs.Cells.{hasCellIn, slotOf}
+use Rattle.requests.specs.Cells.{slotOf}
 use Rattle.requests.specs.OwnCells.{Fits, clearOn, pokeOn, peekOn}
-use Rattle.machine.specs.Turns.{held, Turned}
 use Rattle.requests.proofs.CellRules.{slot-at, slot-nothing, cell-within}
+use Rattle.machine.specs.declared.Machine.{Machine}
+use Rattle.machine.specs.Turns.{held, Turned}
 
 take-zeros : (n m : ℕ) → n ≤ m → _≡_ {A = List ℕ} (take n (replicate m 0)) (replicate n 0)
 take-zeros n m h =

@@ -2,7 +2,7 @@
 use mathlib.Core.Path.{_≡_, refl, sym, ap, _∙_}
 use mathlib.Core.Bool.{Bool, true, false}
 use mathlib.Core.List.{List, [], _++_, append-nil}
-use Prim.Native.Nat.{ℕ, zero, suc, _+_, _-_, _≤_, _<_}
+use Prim.Native.Nat.{ℕ, zero, suc, _≤_, _<_}
 use native.Mathlib.Omega.{arith}
 use borrow.Author.Tests.{lt-ltb, le-ltb, eq-eqb, ne-eqb}
 use lib.Dec.{eqb}
@@ -11,14 +11,14 @@ use lib.Seq.{take-at, length-take-le}
 use Rattle.definitions.specs.Choice.{pick}
 use Rattle.definitions.specs.Bytes.{bytesOf, lent}
 use Rattle.definitions.specs.Image.{cellCount, Image, Procedure, procedureAt}
-use Rattle.definitions.specs.Running.{Trace, traceWords, Ran, on, halt, andGo, Given, gave, runBlock, frame, finish, runProcedure}
+use Rattle.definitions.specs.Running.{Trace, traceWords, Ran, andGo, Given, runBlock, frame, finish, runProcedure}
 use Rattle.definitions.specs.Requests.{answered, argumentValues, ended, calledOn}
 use Rattle.definitions.specs.declared.Answer.{Answer}
 use Rattle.definitions.specs.declared.Answer.the-variants.{Done, Stopped, Refused}
-use Rattle.machine.specs.declared.Machine.{Machine}
-use Rattle.machine.specs.Turns.{held}
 use Rattle.requests.specs.SpareRuns.{Both, both-on, both-halt, WideGiven, wide-gave, procedure-spare}
 use Rattle.execution.specs.Executions.{answeredRun, executed}
+use Rattle.machine.specs.declared.Machine.{Machine}
+use Rattle.machine.specs.Turns.{held}
 use Rattle.machine.specs.Serving.{ranOn, TurnedCall}
 
 -- ---- the two refusals

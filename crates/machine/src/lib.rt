@@ -5,7 +5,7 @@ ghost use Prim.Native.Nat.{_*_, _<_, _≤_};
 ghost use lib.ListN.{length, take, drop};
 ghost use Rattle.definitions.specs.Bytes.{wordsOf, bytesOf};
 ghost use Rattle.definitions.specs.Requests.{calledOn};
-ghost use Rattle.evaluator.specs.Program.{programOf};
+ghost use Rattle.laws.specs.ImageIn.{imageIn};
 ghost use Rattle.requests.specs.OwnCells.{Fits, clearOn, pokeOn, peekOn};
 ghost use Rattle.machine.specs.Turns.{held, Turned};
 ghost use Rattle.machine.specs.Serving.{Serves, TurnedCall};
@@ -126,7 +126,7 @@ impl Machine {
         trace: &mut [u8],
     ) -> Turn
         requires { ⌜ Serves (now image) (now params) (now places) (now ends) (self .count) ⌝ }
-        ensures { λ r. ⌜ TurnedCall self r (now (trace .entry)) (now (trace .exit)) (calledOn (programOf (now (image .entry))) (held self) f (wordsOf (now (arguments .entry))) budget (length (wordsOf (now (trace .entry))))) ⌝ }
+        ensures { λ r. ⌜ TurnedCall self r (now (trace .entry)) (now (trace .exit)) (calledOn (imageIn (now (image .entry))) (held self) f (wordsOf (now (arguments .entry))) budget (length (wordsOf (now (trace .entry))))) ⌝ }
     {
         if tables::procedure_count(image) <= f {
             return Turn {

@@ -5,7 +5,7 @@ ghost use lib.ListN.{length, getD};
 ghost use Rattle.definitions.specs.Bytes.{wordsOf};
 ghost use Rattle.definitions.specs.Image.{procedureAt};
 ghost use Rattle.definitions.specs.Requests.{argumentValues};
-ghost use Rattle.evaluator.specs.Program.{programOf};
+ghost use Rattle.laws.specs.ImageIn.{imageIn};
 ghost use Rattle.machine.specs.Turns.{held};
 ghost use Rattle.machine.specs.Serving.{Serves, Runnable, ranOn, TurnedCall};
 use super::Machine;
@@ -27,7 +27,7 @@ fn run_frame(
     trace: &mut [u8],
 ) -> Turn
     requires { ⌜ Runnable (now image) (now table) (now ends) f (machine .count) result ⌝ }
-    ensures { λ r. ⌜ TurnedCall machine r (now (trace .entry)) (now (trace .exit)) (ranOn (programOf (now (image .entry))) (held machine) f (now (frame .entry)) budget (length (now (trace .entry)) / 4)) ⌝ }
+    ensures { λ r. ⌜ TurnedCall machine r (now (trace .entry)) (now (trace .exit)) (ranOn (imageIn (now (image .entry))) (held machine) f (now (frame .entry)) budget (length (now (trace .entry)) / 4)) ⌝ }
 {
     let mut cells = machine.cells;
     let count = machine.count;
@@ -59,8 +59,8 @@ pub fn run(
     budget: u32,
     trace: &mut [u8],
 ) -> Turn
-    requires { ⌜ (Serves (now image) (now params) (now places) (now ends) (machine .count)) × (f < length (programOf (now image) .procedures)) × (length (now arguments) / 4 ≡ getD (now params) f 0) ⌝ }
-    ensures { λ r. ⌜ TurnedCall machine r (now (trace .entry)) (now (trace .exit)) (ranOn (programOf (now (image .entry))) (held machine) f (argumentValues (procedureAt (programOf (now (image .entry)) .procedures) f .types) (wordsOf (now (arguments .entry)))) budget (length (now (trace .entry)) / 4)) ⌝ }
+    requires { ⌜ (Serves (now image) (now params) (now places) (now ends) (machine .count)) × (f < length (imageIn (now image) .procedures)) × (length (now arguments) / 4 ≡ getD (now params) f 0) ⌝ }
+    ensures { λ r. ⌜ TurnedCall machine r (now (trace .entry)) (now (trace .exit)) (ranOn (imageIn (now (image .entry))) (held machine) f (argumentValues (procedureAt (imageIn (now (image .entry)) .procedures) f .types) (wordsOf (now (arguments .entry)))) budget (length (now (trace .entry)) / 4)) ⌝ }
 {
     let mut table = [0u32; 80];
     tables::fill_tables(image, params, places, &mut table);

@@ -6,7 +6,7 @@ ghost use Rattle.definitions.specs.Bytes.{wordsOf};
 ghost use Rattle.definitions.specs.Image.{procedureAt};
 ghost use Rattle.definitions.specs.Running.{frame as framed};
 ghost use Rattle.definitions.specs.Requests.{argumentValues};
-ghost use Rattle.evaluator.specs.Program.{programOf};
+ghost use Rattle.laws.specs.ImageIn.{imageIn};
 ghost use Rattle.machine.specs.Serving.{Signed};
 
 // A cast of its own: a number in a table as an index.
@@ -26,7 +26,7 @@ pub fn entry(table: &[u32; 32], f: u32) -> usize
 // The type word of the result.
 pub fn result_of(image: &[u32], places: &[u32; 32], f: u32) -> u32
     requires { ⌜ Signed (now image) (now places) f ⌝ }
-    ensures { λ r. ⌜ r ≡ procedureAt (programOf (now (image .entry)) .procedures) f .result ⌝ }
+    ensures { λ r. ⌜ r ≡ procedureAt (imageIn (now (image .entry)) .procedures) f .result ⌝ }
 {
     let place = entry(places, f);
     lookup::arrays::word_at(image, place + 1)
@@ -40,8 +40,8 @@ pub fn fill_values(
     arguments: &[u8],
     frame: &mut [u32; 255],
 )
-    requires { ⌜ (Signed (now image) (now places) f) × (length (now arguments) / 4 ≤ length (procedureAt (programOf (now image) .procedures) f .types)) × (now frame ≡ replicate 255 0) ⌝ }
-    ensures { λ _. ⌜ now (frame .exit) ≡ framed (argumentValues (procedureAt (programOf (now (image .entry)) .procedures) f .types) (wordsOf (now (arguments .entry)))) ⌝ }
+    requires { ⌜ (Signed (now image) (now places) f) × (length (now arguments) / 4 ≤ length (procedureAt (imageIn (now image) .procedures) f .types)) × (now frame ≡ replicate 255 0) ⌝ }
+    ensures { λ _. ⌜ now (frame .exit) ≡ framed (argumentValues (procedureAt (imageIn (now (image .entry)) .procedures) f .types) (wordsOf (now (arguments .entry)))) ⌝ }
 {
     let place = entry(places, f);
     let first = place + 1 + 1;

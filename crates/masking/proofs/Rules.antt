@@ -1,24 +1,25 @@
 -- What each return of the functions that write masked statements gives, and what their calls ask. Assumes nothing.
-use Prim.Native.Nat.{ℕ, _+_, _*_, _≤_, _<_}
+use Prim.Native.Nat.{ℕ, _+_, _*_}
 use mathlib.Core.Bool.{Bool, true, false, _||_}
 use mathlib.Core.List.{List, [], _∷_, _++_}
 use mathlib.Core.Path.{_≡_, refl, sym, ap, _∙_}
-use lib.ListN.{length}
 use Rattle.definitions.specs.Choice.{pick}
-use Rattle.definitions.specs.Image.{Expression, boolean, variable, unary, cell, assign, store}
+use Rattle.definitions.specs.Image.{Expression, variable, unary, assign}
 use Rattle.definitions.specs.Reading.{Parse, got, refused, readExpression}
-use Rattle.definitions.specs.Encoding.{wordWith, statementWordWith, expressionWords, argumentWords, statementWords, statementsWords}
-use Rattle.definitions.specs.Compiling.{moved, movedAll, act, masked, under, compiledReturn, compiledCall}
-use Rattle.opening.specs.Parses.{ok, got-ok, endOf, end-of}
+use Rattle.definitions.specs.Encoding.{wordWith, statementWordWith, expressionWords, argumentWords, statementWords}
+use Rattle.definitions.specs.Compiling.{moved, movedAll, act, masked, under}
+use Rattle.laws.specs.Parses.{ok, got-ok, endOf}
 use Rattle.tape.specs.Tape.{Tape, write, writes}
 use Rattle.tape.specs.Laws.{writes-nil, writes-one}
-use Rattle.contexts.specs.Fine.{FineExpression, FineTwo, argumentsLeft}
+use Rattle.contexts.specs.Fine.{FineExpression}
 use Rattle.copying.specs.Copy.{Copied, spot, copied, copiedArguments}
 use Rattle.copying.specs.Laws.{copied-got, arguments-got}
-use Rattle.copying.specs.Runs.{word-run, run-word, run-run, word-copy, run-copy, copy-run, copy-copy, copy-at}
+use Rattle.copying.specs.Runs.{word-run, run-run, word-copy, run-copy, copy-run, copy-copy}
 use Rattle.copying.specs.declared.Spot.{Spot}
-use Rattle.masking.specs.Forms.{prefix, oldVariable, oldCell, selectedWords, valued, assigned, indexed, keptCell, stored, returned, conditioned, callHead, called}
-use Rattle.masking.proofs.Words.{word-assign, word-next, word-store, word-call, assign-words, store-words, under-words, selected-words, return-words, plain-return-words, call-words, plain-call-words}
+use Rattle.masking.specs.Forms.{prefix, oldVariable, oldCell, selectedWords, valued, assigned, indexed, keptCell}
+use Rattle.masking.specs.Forms.{stored, returned, conditioned, callHead, called}
+use Rattle.masking.proofs.Words.{word-assign, word-next, word-store, word-call, assign-words, store-words}
+use Rattle.masking.proofs.Words.{under-words, return-words, plain-return-words, call-words, plain-call-words}
 
 -- ---- words with no part that was read
 

@@ -1,13 +1,14 @@
 -- The words of masked statements in the order in which the code writes them. Assumes nothing.
 use Prim.Native.Nat.{ℕ, _+_, _*_}
-use mathlib.Core.Bool.{Bool, true, false, _||_}
-use mathlib.Core.List.{List, [], _∷_, _++_, append-assoc, append-nil}
+use mathlib.Core.Bool.{Bool, true, false}
+use mathlib.Core.List.{List, [], _∷_, _++_, append-assoc, append-nil, flatMap}
 use mathlib.Core.Path.{_≡_, refl, sym, ap, _∙_}
 use native.Mathlib.Omega.{arith}
 use Rattle.definitions.specs.Choice.{pick}
-use Rattle.definitions.specs.Image.{Expression, boolean, variable, unary, binary, select, cell, Statement, assign, store, return, call, Block, done, step}
-use Rattle.definitions.specs.Encoding.{wordWith, statementWordWith, expressionWords, argumentWords, statementWords, statementsWords}
-use Rattle.definitions.specs.Compiling.{act, masked, under, one, compiledReturn, compiledCall}
+use Rattle.definitions.specs.Image.{Expression, boolean, variable, select, cell, assign, store}
+use Rattle.definitions.specs.Encoding.{wordWith, statementWordWith, expressionWords, argumentWords, statementWords}
+use Rattle.definitions.specs.Encoding.{statementsWords}
+use Rattle.definitions.specs.Compiling.{masked, under, compiledReturn, compiledCall}
 use Rattle.masking.specs.Forms.{prefix, oldVariable, oldCell, selectedWords}
 
 pub word-assign : (y : ℕ) → 1610612736 + y ≡ statementWordWith 0 y
@@ -61,14 +62,14 @@ plain-return-words true a e rv h = absurd (let z : _≡_ {A = ℕ} 1 0 = ap (λ 
 plain-return-words false a e rv h = sym (append-nil _)
 
 pub argument-words : (es fs : List Expression) → argumentWords (es ++ fs) ≡ argumentWords es ++ argumentWords fs
-unfolding argumentWords
+unfolding flatMap argumentWords
 argument-words [] fs = refl
 argument-words (e ∷ es) fs = ap (λ z. expressionWords e ++ z) (argument-words es fs) ∙ sym (append-assoc (expressionWords e) (argumentWords es) (argumentWords fs))
 
 pub call-words : (c g : Bool) (a : Expression) (k f x : ℕ) (es : List Expression) → c ≡ true
     → (statementWordWith 5 (f * 256 + k) ∷ argumentWords es) ++ (expressionWords a ++ selectedWords x a (wordWith 10 k))
     ≡ statementsWords (compiledCall c g a k f x es)
-unfolding compiledCall statementWords argumentWords expressionWords
+unfolding flatMap compiledCall statementWords argumentWords expressionWords
 call-words true g a k f x es h =
     ap (λ z. statementWordWith 5 (f * 256 + k) ∷ z)
     (rw (argument-words es (a ∷ []), append-nil (expressionWords a), append-assoc (argumentWords es) (expressionWords a) (selectedWords x a (wordWith 10 k) ++ []))
@@ -77,7 +78,7 @@ call-words false g a k f x es h = absurd (let z : _≡_ {A = ℕ} 0 1 = ap (λ (
 
 pub plain-call-words : (c g : Bool) (a : Expression) (k f x : ℕ) (es : List Expression) → c ≡ false
     → (statementWordWith 5 (f * 256 + x) ∷ argumentWords es) ++ pick g (wordWith 9 1 ∷ []) [] ≡ statementsWords (compiledCall c g a k f x es)
-unfolding compiledCall statementWords argumentWords expressionWords
+unfolding flatMap compiledCall statementWords argumentWords expressionWords
 plain-call-words true g a k f x es h = absurd (let z : _≡_ {A = ℕ} 1 0 = ap (λ (b : Bool). pick b 1 0) h in omega arith)
 plain-call-words false true a k f x es h =
     ap (λ z. statementWordWith 5 (f * 256 + x) ∷ z) (sym (append-nil _ ∙ argument-words es (boolean 0 1 ∷ [])))

@@ -3,9 +3,10 @@
 use Prim.Native.Nat.{ℕ, _+_, _*_}
 use mathlib.Core.Bool.{Bool, true, false, _||_}
 use mathlib.Core.List.{List, [], _∷_, _++_}
-use Rattle.definitions.specs.Image.{Expression, variable, unary, cell, Statement, assign, store}
+use Rattle.definitions.specs.Image.{Expression, variable, unary, cell, assign, store}
 use Rattle.definitions.specs.Reading.{Parse, got, refused}
-use Rattle.definitions.specs.Encoding.{wordWith, statementWordWith, expressionWords, argumentWords, statementWords, statementsWords}
+use Rattle.definitions.specs.Encoding.{wordWith, statementWordWith, expressionWords, argumentWords, statementWords}
+use Rattle.definitions.specs.Encoding.{statementsWords}
 use Rattle.definitions.specs.Compiling.{moved, movedAll, act, masked, under, compiledReturn, compiledCall}
 use Rattle.tape.specs.Tape.{Tape, writes}
 use Rattle.copying.specs.Copy.{Copied, spot}

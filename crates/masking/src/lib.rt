@@ -10,7 +10,7 @@ ghost use Rattle.definitions.specs.Image.{variable, unary, assign};
 ghost use Rattle.definitions.specs.Reading.{readExpression};
 ghost use Rattle.definitions.specs.Encoding.{wordWith, statementWordWith, expressionWords, statementWords};
 ghost use Rattle.definitions.specs.Compiling.{act, under};
-ghost use Rattle.opening.specs.Parses.{ok, endOf};
+ghost use Rattle.laws.specs.Parses.{ok, endOf};
 ghost use Rattle.tape.specs.Tape.{writes};
 ghost use Rattle.contexts.specs.Fine.{FineExpression, FineTwo, argumentsLeft};
 ghost use Rattle.masking.specs.Forms.{prefix, oldVariable, selectedWords, valued, assigned, indexed, keptCell, stored, returned, conditioned, callHead, called};

@@ -1,7 +1,7 @@
 -- The program's table is the definition's.
 -- Assumes nothing.
 use mathlib.Core.Path.{_≡_}
-use mathlib.Core.List.{List, map}
+use mathlib.Core.List.{map}
 use Prim.Native.Nat.{ℕ}
 use lib.ListN.{getD, List·getD-map}
 use Rattle.definitions.specs.Operators.{Row as Defined, row, operators, operator}

@@ -12,15 +12,16 @@ use borrow.Author.Tests.{eqb-true, eqb-false, ne-eqb}
 use Rattle.definitions.specs.Choice.{pick}
 use Rattle.definitions.specs.Arithmetic.{logicalAnd, truth}
 use Rattle.definitions.specs.Operators.{applyBinary}
-use Rattle.definitions.specs.Image.{Expression, variable, select, conditional, loop, unary, assign, Block, step}
+use Rattle.definitions.specs.Image.{Expression, variable, select, conditional, loop, unary, assign, Block, sequence}
 use Rattle.definitions.specs.Sorts.{outside, inside}
 use Rattle.definitions.specs.Labels.{isConstant, constantValue, unbounded, boundsInside}
 use Rattle.definitions.specs.Compiling.{act, under, followedBy, one, compiledIf, compiledStatement}
 use Rattle.definitions.specs.Running.{Trace, Evaluated, value, evaluate, operated}
-use Rattle.preservation.specs.Tests.{or-one, or-zero, or-left, or-right}
+use Rattle.laws.specs.Tests.{or-true, or-false, or-left, or-right}
 use Rattle.preservation.specs.Relations.{SafeValue, sound, SimValue, safe-bind, sim-through}
 use Rattle.preservation.specs.Evaluations.{Bounded}
-use Rattle.preservation.specs.Layouts.{Layout, Scope, InUse, Reserved, Allocation, renamed-injective, actAt, operand, rcAfterBlockAt, secretAt, slot}
+use Rattle.preservation.specs.Layouts.{Layout, Scope, InUse, Reserved, Allocation, renamed-injective, actAt}
+use Rattle.preservation.specs.Layouts.{operand, rcAfterBlockAt, secretAt, slot}
 use Rattle.preservation.specs.Rules.{loop-variable}
 use Rattle.preservation.specs.Positions.{code, codes, sizeOfBlock, StatementAt, widened, entered}
 
@@ -237,13 +238,13 @@ module _ (L : Layout) (pc : Bool) (arm : ℕ) (rc : Bool) (k : ℕ) (c : Express
   -- "T := condition, E := not T; under an act, T := act and condition, E := act and not T. The arms follow in line."
   pub code-if-secret : secretAt L c ≡ true
       → code L (conditional c a b) pc arm rc k
-      ≡ step 0 (assign k (under (pc || rc) (actAt L pc arm rc) (operand L c)))
-      (step 0 (assign (k + 1) (under (pc || rc) (actAt L pc arm rc) (unary 0 0 (variable 0 k))))
+      ≡ sequence 0 (assign k (under (pc || rc) (actAt L pc arm rc) (operand L c)))
+      (sequence 0 (assign (k + 1) (under (pc || rc) (actAt L pc arm rc) (unary 0 0 (variable 0 k))))
       (followedBy (codes L a true k rc (k + 2)) (codes L b true (k + 1) rc (k + 2 + sizeOfBlock L true rc a))))
   unfolding compiledStatement compiledIf
-  code-if-secret e = rw (e, or-one pc) refl
+  code-if-secret e = rw (e, or-true pc) refl
 
   pub code-if-public : secretAt L c ≡ false
       → code L (conditional c a b) pc arm rc k ≡ one (conditional (operand L c) (codes L a pc arm rc k) (codes L b pc arm rc (k + sizeOfBlock L pc rc a)))
   unfolding compiledStatement compiledIf
-  code-if-public e = rw (e, or-zero pc) refl
+  code-if-public e = rw (e, or-false pc) refl

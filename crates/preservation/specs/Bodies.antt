@@ -12,8 +12,9 @@ use Rattle.definitions.specs.Choice.{pick}
 use Rattle.definitions.specs.Image.{Block, Procedure, Image, guarded}
 use Rattle.definitions.specs.Sorts.{ordinary, markBlock, procedureSortFaults}
 use Rattle.definitions.specs.Labels.{unbounded, procedureLabelFaults}
-use Rattle.definitions.specs.Compiling.{secretBoolean, renamed, defers, guards, returnVariable, firstTemporary, firstMoved, blockTemporaries, compiledTypes}
-use Rattle.preservation.specs.Tests.{and-left, conjuncts, conjuncts, conjuncts}
+use Rattle.definitions.specs.Compiling.{secretBoolean, renamed, defers, guards, returnVariable, firstTemporary}
+use Rattle.definitions.specs.Compiling.{firstMoved, blockTemporaries, compiledTypes}
+use Rattle.laws.specs.Tests.{and-left, conjuncts}
 use Rattle.preservation.specs.WellRead.{wellReadProcedure, countedBlock}
 use Rattle.preservation.specs.Layouts.{Layout, Scope, Reserved, Allocation}
 use Rattle.preservation.specs.Positions.{codes, sizeOfBlock, BlockAt}

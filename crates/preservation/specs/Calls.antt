@@ -11,13 +11,15 @@ use borrow.Author.Tests.{ltb-true, ltb-false, eqb-true, eqb-false}
 use Rattle.definitions.specs.Choice.{pick}
 use Rattle.definitions.specs.declared.Answer.the-variants.{Done, Stopped, Refused}
 use Rattle.definitions.specs.Image.{Procedure, Image, guarded, procedureAt}
-use Rattle.definitions.specs.Compiling.{secretBoolean, guards, compiledTypes, compiledProcedure, compiledProcedures, compiledImage}
+use Rattle.definitions.specs.Compiling.{secretBoolean, guards, compiledTypes, compiledProcedure, compiledProcedures}
+use Rattle.definitions.specs.Compiling.{compiledImage}
 use Rattle.definitions.specs.Running.{Trace, traceWords, Ran, on, Given, gave, runProcedure}
 use Rattle.definitions.specs.Requests.{Called, answered, argumentValues, ended, calledOn}
 use Rattle.preservation.specs.Relations.{Spent, Sim, meet, left, right, fail}
 use Rattle.preservation.specs.Simulation.{SameGiven, sameGiven}
 use Rattle.preservation.specs.Bodies.{Accepted, typed-parameters}
-use Rattle.preservation.specs.Preservation.{Compilable, accepted-at, compiled-at, compiled-count, withGuard, preserved}
+use Rattle.preservation.specs.Preservation.{Compilable, accepted-at, compiled-at, compiled-count, withGuard}
+use Rattle.preservation.specs.Preservation.{preserved}
 use Rattle.preservation.specs.Erasure.{erasedProcedure, erasedProcedures, erasedImage, erased-at, erased-count}
 use Rattle.preservation.specs.ErasedRuns.{AlikeTraces, same-room, alike-turned, sim-alike, alike-procedure}
 

@@ -3,9 +3,10 @@ use mathlib.Core.Path.{_≡_, refl, sym, _∙_}
 use mathlib.Core.Bool.{Bool, true, false, _||_}
 use mathlib.Core.List.{List}
 use Prim.Native.Nat.{ℕ}
-use Rattle.definitions.specs.Image.{Expression, Statement, assign, store, conditional, loop, return, call, Block, done, step}
+use Rattle.definitions.specs.Image.{Expression, Statement, assign, store, conditional, loop, return, call, Block, done}
+use Rattle.definitions.specs.Image.{sequence}
 use Rattle.definitions.specs.Labels.{secretIn, rcAfter, rcAfterBlock}
-use Rattle.preservation.specs.Tests.{or-one, or-zero, or-left, or-right}
+use Rattle.laws.specs.Tests.{or-true, or-false, or-left, or-right}
 
 module _ (types arrays : List ℕ) where
   mutual
@@ -16,12 +17,12 @@ module _ (types arrays : List ℕ) where
     rc-stays (store a i e) pc = refl
     rc-stays (conditional c a b) pc = rw (rc-stays-block a (pc || secretIn types arrays c)) refl
     rc-stays (loop x f t b) pc = rc-stays-block b pc
-    rc-stays (return e) pc = or-one pc
+    rc-stays (return e) pc = or-true pc
     rc-stays (call f x es) pc = refl
 
     pub rc-stays-block : (b : Block) (pc : Bool) → rcAfterBlock types arrays pc true b ≡ true
     rc-stays-block done pc = refl
-    rc-stays-block (step l s b) pc = rw (rc-stays s pc) (rc-stays-block b pc)
+    rc-stays-block (sequence l s b) pc = rw (rc-stays s pc) (rc-stays-block b pc)
 
   pub rc-rises : (s : Statement) (pc rc : Bool) → rc ≡ true → rcAfter types arrays pc rc s ≡ true
   rc-rises s pc rc e = rw e (rc-stays s pc)
@@ -42,16 +43,16 @@ module _ (types arrays : List ℕ) where
   module _ (c : Expression) (a b : Block) (pc rc : Bool) where
     pub rc-secret-then : secretIn types arrays c ≡ true → rcAfterBlock types arrays true rc a ≡ true → rcAfter types arrays pc rc (conditional c a b) ≡ true
     unfolding rcAfter
-    rc-secret-then e q = rw (e, or-one pc) (or-left (rcAfterBlock types arrays true rc a) (rcAfterBlock types arrays true rc b) q)
+    rc-secret-then e q = rw (e, or-true pc) (or-left (rcAfterBlock types arrays true rc a) (rcAfterBlock types arrays true rc b) q)
 
     pub rc-secret-else : secretIn types arrays c ≡ true → rcAfterBlock types arrays true rc b ≡ true → rcAfter types arrays pc rc (conditional c a b) ≡ true
     unfolding rcAfter
-    rc-secret-else e q = rw (e, or-one pc) (or-right (rcAfterBlock types arrays true rc a) (rcAfterBlock types arrays true rc b) q)
+    rc-secret-else e q = rw (e, or-true pc) (or-right (rcAfterBlock types arrays true rc a) (rcAfterBlock types arrays true rc b) q)
 
     pub rc-public-then : secretIn types arrays c ≡ false → rcAfterBlock types arrays pc rc a ≡ true → rcAfter types arrays pc rc (conditional c a b) ≡ true
     unfolding rcAfter
-    rc-public-then e q = rw (e, or-zero pc) (or-left (rcAfterBlock types arrays pc rc a) (rcAfterBlock types arrays pc rc b) q)
+    rc-public-then e q = rw (e, or-false pc) (or-left (rcAfterBlock types arrays pc rc a) (rcAfterBlock types arrays pc rc b) q)
 
     pub rc-public-else : secretIn types arrays c ≡ false → rcAfterBlock types arrays pc rc b ≡ true → rcAfter types arrays pc rc (conditional c a b) ≡ true
     unfolding rcAfter
-    rc-public-else e q = rw (e, or-zero pc) (or-right (rcAfterBlock types arrays pc rc a) (rcAfterBlock types arrays pc rc b) q)
+    rc-public-else e q = rw (e, or-false pc) (or-right (rcAfterBlock types arrays pc rc a) (rcAfterBlock types arrays pc rc b) q)

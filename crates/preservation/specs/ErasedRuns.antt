@@ -1,4 +1,4 @@
--- A tree and the same tree without its places run alike to the last step, but for the places that stops and trace entries name.
+-- A tree and the same tree without its places run alike to the last sequence, but for the places that stops and trace entries name.
 -- Assumes nothing.
 use mathlib.Core.Path.{_≡_, sym, _∙_, ap}
 use mathlib.Core.Bool.{Bool, true, false, _||_}
@@ -9,10 +9,16 @@ use lib.ListN.{length, getD, set, length-append}
 use Rattle.definitions.specs.Choice.{pick}
 use Rattle.definitions.specs.Arithmetic.{truth}
 use Rattle.definitions.specs.Operators.{applyBinary}
-use Rattle.definitions.specs.Image.{arrayLength, Expression, constant, boolean, variable, cell, unary, binary, select, Statement, assign, store, conditional, loop, return, call, Block, done, step, Procedure, procedureAt}
-use Rattle.definitions.specs.Running.{Trace, traceWords, Evaluated, value, stop, Ran, on, halt, bind, within, andGo, after, emit, inArray, indexAt, divided, operated, evaluate, evaluateAll, Outcome, next, back, Given, gave, Callee, Body, tick, passes, taken, received, runStatement, runBlock, frame, finish, runProcedure}
+use Rattle.definitions.specs.Image.{arrayLength, Expression, constant, boolean, variable, cell, unary, binary, select}
+use Rattle.definitions.specs.Image.{Statement, assign, store, conditional, loop, return, call, Block, done, sequence}
+use Rattle.definitions.specs.Image.{Procedure, procedureAt}
+use Rattle.definitions.specs.Running.{Trace, traceWords, Evaluated, value, stop, Ran, on, halt, bind, within, andGo}
+use Rattle.definitions.specs.Running.{after, emit, inArray, indexAt, divided, operated, evaluate, evaluateAll, Outcome}
+use Rattle.definitions.specs.Running.{next, back, Given, gave, Callee, Body, tick, passes, taken, received}
+use Rattle.definitions.specs.Running.{runStatement, runBlock, frame, finish, runProcedure}
 use Rattle.preservation.specs.Relations.{Sim, meet, left, right, fail}
-use Rattle.preservation.specs.Erasure.{erasedExpression, erasedExpressions, erasedStatement, erasedBlock, erasedProcedure, erasedProcedures, erased-at}
+use Rattle.preservation.specs.Erasure.{erasedExpression, erasedExpressions, erasedStatement, erasedBlock}
+use Rattle.preservation.specs.Erasure.{erasedProcedure, erasedProcedures, erased-at}
 
 -- two kinds of trace that are full at the same time, whatever places their entries name
 pub record AlikeTraces {T U : Type 0} (C : Trace T) (D : Trace U) (Q : T → U → Type 0) : Type 0 where
@@ -190,7 +196,7 @@ module _ {T U : Type 0} {C : Trace T} {D : Trace U} {Q : T → U → Type 0} (h 
 
       alike-block : (b : Block) (z : ℕ) (t : T) (u : U) (vs cs : List ℕ) → Q t u → Alike Q (runBlock C budget arrays J b z t vs cs) (runBlock D budget arrays K (erasedBlock b) z u vs cs)
       alike-block done z t u vs cs q = alikeOn q
-      alike-block (step l s b) z t u vs cs q =
+      alike-block (sequence l s b) z t u vs cs q =
           alike-tick budget l 0 z t u _ _ q λ y. alike-go (alike-statement s l y t u vs cs q) λ o w t₁ u₁ q₁.
           alike-after (λ w v us ds. runBlock C budget arrays J b w v us ds) (λ w v us ds. runBlock D budget arrays K (erasedBlock b) w v us ds) (λ y w x us ds r. alike-block b y w x us ds r) o w t₁ u₁ q₁
 

@@ -3,7 +3,9 @@ use mathlib.Core.Path.{_≡_, refl, ap}
 use mathlib.Core.List.{List, [], _∷_}
 use Prim.Native.Nat.{ℕ, zero, suc}
 use lib.ListN.{length}
-use Rattle.definitions.specs.Image.{Expression, constant, boolean, variable, cell, unary, binary, select, Statement, assign, store, conditional, loop, return, call, Block, done, step, Procedure, Image, procedureAt}
+use Rattle.definitions.specs.Image.{Expression, constant, boolean, variable, cell, unary, binary, select, Statement}
+use Rattle.definitions.specs.Image.{assign, store, conditional, loop, return, call, Block, done, sequence, Procedure}
+use Rattle.definitions.specs.Image.{Image, procedureAt}
 
 unfoldable pub erasedExpression : Expression → Expression
 erasedExpression (constant p v) = constant 0 v
@@ -29,7 +31,7 @@ unfoldable mutual
 
   pub erasedBlock : Block → Block
   erasedBlock done = done
-  erasedBlock (step l s b) = step 0 (erasedStatement s) (erasedBlock b)
+  erasedBlock (sequence l s b) = sequence 0 (erasedStatement s) (erasedBlock b)
 
 unfoldable pub erasedProcedure : Procedure → Procedure
 erasedProcedure p = record { place = 0; mode = p .mode; parameters = p .parameters; result = p .result; types = p .types; body = erasedBlock (p .body) }

@@ -2,22 +2,26 @@
 -- a fault where it keeps the rules of a secret context. Assumes nothing.
 use mathlib.Core.Path.{_≡_, refl, sym, ap}
 use mathlib.Core.Logic.{_≢_}
-use mathlib.Core.Bool.{Bool, true, false, _&&_, _||_, not, false≢true}
+use mathlib.Core.Bool.{Bool, true, false, _&&_, _||_, false≢true, true≢false}
 use mathlib.Core.List.{List, [], _∷_, _++_}
 use Prim.Native.Nat.{ℕ, suc, _+_, _<_}
 use native.Mathlib.Omega.{arith}
 use lib.Dec.{ltb, eqb}
 use lib.ListN.{length, getD}
-use borrow.Author.Tests.{ltb-true, leb-true, leb-false, eqb-true, eqb-false, not-true, not-false, lt-ltb}
+use borrow.Author.Tests.{ltb-true, leb-true, leb-false, eqb-true, eqb-false, not-false, lt-ltb}
 use Rattle.definitions.specs.Choice.{pick}
-use Rattle.definitions.specs.Operators.{operator, both as bothOperands, applyBinary}
-use Rattle.definitions.specs.Image.{arrayLength, baseOf, Expression, constant, boolean, variable, cell, unary, binary, select, placeOf}
+use Rattle.definitions.specs.Operators.{operator, both as bothOperands, applyBinary, leftPublic}
+use Rattle.definitions.specs.Image.{arrayLength, baseOf, Expression, constant, boolean, variable, cell, unary, binary}
+use Rattle.definitions.specs.Image.{select, placeOf}
 use Rattle.definitions.specs.Sorts.{outside, sortFaults, argumentFaults}
-use Rattle.definitions.specs.Labels.{isConstant, constantValue, unbounded, boundedIndex, labelFaults, argumentLabelFaults}
+use Rattle.definitions.specs.Labels.{isConstant, constantValue, unbounded, boundedIndex, labelFaults}
+use Rattle.definitions.specs.Labels.{argumentLabelFaults}
 use Rattle.definitions.specs.Compiling.{renamed, moved, movedAll}
-use Rattle.definitions.specs.Running.{Trace, value, stop, bind, inArray, indexAt, divided, operated, evaluate, evaluateAll}
-use Rattle.preservation.specs.Tests.{and-left, and-right, kept, empties, empties, empties}
-use Rattle.preservation.specs.Relations.{SafeValue, sound, SimValue, same, broke, safe-bind, sim-bind, sim-value-map, both, emitted}
+use Rattle.definitions.specs.Running.{Trace, value, stop, bind, inArray, indexAt, divided, operated, evaluate}
+use Rattle.definitions.specs.Running.{evaluateAll}
+use Rattle.laws.specs.Tests.{kept, empties}
+use Rattle.preservation.specs.Relations.{SafeValue, sound, SimValue, same, broke, safe-bind, sim-bind}
+use Rattle.preservation.specs.Relations.{sim-value-map, both, emitted}
 
 -- a variable of a for with constant bounds is below its upper bound
 abbrev pub Bounded : List ℕ → ℕ → List ℕ → Type 0
@@ -65,6 +69,17 @@ module _ {T : Type 0} (D : Trace T) (arrays : List ℕ) (first : ℕ) (vs cs : L
   unfolding divided
   safe-divided p o v w e t = safe-bind (emitted D 5 p v t) λ a u _. safe-bind (emitted D 6 p w u) λ b x _. rw e (sound tt)
 
+-- what is no constant has the value 0
+nonzero-constant : (e : Expression) → eqb (constantValue e) 0 ≡ false → isConstant e ≡ true
+unfolding constantValue isConstant
+nonzero-constant (constant p v) h = refl
+nonzero-constant (boolean p v) h = absurd (true≢false h)
+nonzero-constant (variable p x) h = absurd (true≢false h)
+nonzero-constant (cell p a i) h = absurd (true≢false h)
+nonzero-constant (unary p o e) h = absurd (true≢false h)
+nonzero-constant (binary p o e f) h = absurd (true≢false h)
+nonzero-constant (select p c e f) h = absurd (true≢false h)
+
 -- the array's length is a number of 16 bits
 pub short-array : (w : ℕ) → arrayLength w < 65536
 short-array w = omega arith
@@ -86,10 +101,9 @@ module _ {T : Type 0} (D : Trace T) (types arrays bounds : List ℕ) (first : �
       go : (v : ℕ) (u : T) (b : Bool) → (eqb o 9 || eqb o 10) ≡ b → SafeValue (λ (_ : ℕ). Unit {0}) (evaluate D arrays (moved first g) vs cs u)
           → SafeValue (λ (_ : ℕ). Unit {0}) (bind (evaluate D arrays (moved first g) vs cs u) (λ w x. pick b (divided D p o v w) (value (applyBinary o v w)) x))
       go v u true q _ =
-          let k : (eqb (operator o .publics) bothOperands && not (isConstant g && not (eqb (constantValue g) 0))) ≡ false = kept _ 11 (placeOf g) (search empties) in
-          let c = not-false (isConstant g && not (eqb (constantValue g) 0)) (rw (division o q) at k) in
-          rw (constant-value D arrays first vs cs g (and-left (isConstant g) (not (eqb (constantValue g) 0)) c) u)
-          (safe-divided D arrays first vs cs p o v (constantValue g) (not-true (eqb (constantValue g) 0) (and-right (isConstant g) (not (eqb (constantValue g) 0)) c)) u)
+          let k : (leftPublic o && eqb (constantValue g) 0) ≡ false = kept _ 11 (placeOf g) (search empties) in
+          let c : eqb (constantValue g) 0 ≡ false = rw (division o q) at k in
+          rw (constant-value D arrays first vs cs g (nonzero-constant g c) u) (safe-divided D arrays first vs cs p o v (constantValue g) c u)
       go v u false q r = safe-bind r λ w x _. sound tt
   safe-value (select p c f g) e t =
       safe-bind (safe-value c (search empties) t) λ b u _.

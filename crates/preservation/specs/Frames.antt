@@ -19,7 +19,8 @@ use Rattle.preservation.specs.Evaluations.{Bounded, Agree}
 use Rattle.preservation.specs.Layouts.{Layout, Scope, Reserved, Allocation, renamed-injective, slot}
 use Rattle.preservation.specs.Rules.{loop-variable}
 use Rattle.preservation.specs.Positions.{StatementAt, widened, entered}
-use Rattle.preservation.specs.Acts.{Unchanged, reserved-in-use, variable-in-use, live-in-use, rv-in-use, unchanged-bounded, entered-bounded}
+use Rattle.preservation.specs.Acts.{Unchanged, reserved-in-use, variable-in-use, live-in-use, rv-in-use}
+use Rattle.preservation.specs.Acts.{unchanged-bounded, entered-bounded}
 
 -- The source runs: its variables have their values in the compiled frame, and nothing has been returned. The guard and the temporaries in use
 -- have the values `val`.

@@ -7,18 +7,32 @@ use Prim.Native.Nat.{ℕ, _+_, _-_, _<_, _≤_}
 use native.Mathlib.Omega.{arith}
 use lib.ListN.{length, getD, set}
 use lib.Seq.{getD-set-same, getD-set-other, set-getD}
-use Rattle.definitions.specs.Image.{arrayLength, baseOf, Expression, boolean, variable, cell, unary, select, Statement, assign, store, conditional, loop, return, call, Block, done, step, Procedure, guarded, procedureAt}
+use Rattle.definitions.specs.Image.{arrayLength, baseOf, Expression, boolean, variable, cell, unary, select, Statement}
+use Rattle.definitions.specs.Image.{assign, store, conditional, loop, return, call, Block, done, sequence, Procedure}
+use Rattle.definitions.specs.Image.{guarded, procedureAt}
 use Rattle.definitions.specs.Labels.{isConstant, constantValue}
-use Rattle.definitions.specs.Compiling.{masked, under, one, compiledReturn, compiledCall, compiledStatement, compiledBlock}
-use Rattle.definitions.specs.Running.{Trace, Body, value, evaluate, evaluateAll, Outcome, next, Given, gave, Callee, passes, received, runStatement, runBlock}
-use Rattle.preservation.specs.Relations.{SafeValue, sound, Safe, fine, safe-bind, safe-within, safe-go, safe-map, emitted}
+use Rattle.definitions.specs.Compiling.{masked, under, one, compiledReturn, compiledCall, compiledStatement}
+use Rattle.definitions.specs.Compiling.{compiledBlock}
+use Rattle.definitions.specs.Running.{Trace, Body, value, evaluate, evaluateAll, Outcome, next, Given, gave, Callee}
+use Rattle.definitions.specs.Running.{passes, received, runStatement, runBlock}
+use Rattle.preservation.specs.Relations.{SafeValue, sound, Safe, fine, safe-bind, safe-within, safe-go, safe-map}
+use Rattle.preservation.specs.Relations.{emitted}
 use Rattle.preservation.specs.Contexts.{rc-rises, rc-rises-block}
-use Rattle.preservation.specs.Evaluations.{constant-value, index-value, safe-index, short-array, safe-value, safe-values}
-use Rattle.preservation.specs.Layouts.{Layout, Scope, actAt, operand, operands, rcAfterAt, rcAfterBlockAt, secretAt, slot}
-use Rattle.preservation.specs.Rules.{ExpressionRules, assign-value, store-value, store-bounded, if-condition, loop-constants, return-value, call-labels, call-guarded, call-count}
-use Rattle.preservation.specs.Positions.{code, codes, sizeOfBlock, StatementAt, BlockAt, widened, entered, first-statement, rest-block, secret-then, secret-else, public-then, public-else, loop-block, loop-allocation}
-use Rattle.preservation.specs.Runs.{Next, onward, safe-one, safe-step, safe-followed, safe-assign, safe-conditional, safe-loop, safe-passes}
-use Rattle.preservation.specs.Acts.{off-secret, off-act, off-select, off-under, Unchanged, OffFrame, off-still, off-rises, off-arm, narrowed, entered-in-use, entered-off, bound-below, unchanged-refl, unchanged-trans, unchanged-free, unchanged-same, code-if-secret, code-if-public}
+use Rattle.preservation.specs.Evaluations.{constant-value, index-value, safe-index, short-array, safe-value}
+use Rattle.preservation.specs.Evaluations.{safe-values}
+use Rattle.preservation.specs.Layouts.{Layout, Scope, actAt, operand, operands, rcAfterAt, rcAfterBlockAt}
+use Rattle.preservation.specs.Layouts.{secretAt, slot}
+use Rattle.preservation.specs.Rules.{ExpressionRules, assign-value, store-value, store-bounded, if-condition}
+use Rattle.preservation.specs.Rules.{loop-constants, return-value, call-labels, call-guarded, call-count}
+use Rattle.preservation.specs.Positions.{code, codes, sizeOfBlock, StatementAt, BlockAt, widened, entered}
+use Rattle.preservation.specs.Positions.{first-statement, rest-block, secret-then, secret-else, public-then}
+use Rattle.preservation.specs.Positions.{public-else, loop-block, loop-allocation}
+use Rattle.preservation.specs.Runs.{Next, onward, safe-one, safe-step, safe-followed, safe-assign}
+use Rattle.preservation.specs.Runs.{safe-conditional, safe-loop, safe-passes}
+use Rattle.preservation.specs.Acts.{off-secret, off-act, off-select, off-under, Unchanged, OffFrame, off-still}
+use Rattle.preservation.specs.Acts.{off-rises, off-arm, narrowed, entered-in-use, entered-off, bound-below}
+use Rattle.preservation.specs.Acts.{unchanged-refl, unchanged-trans, unchanged-free, unchanged-same}
+use Rattle.preservation.specs.Acts.{code-if-secret, code-if-public}
 
 -- a procedure that leaves the cells as they were
 pub data Unmoved (cs : List ℕ) : Given → Type 0 where
@@ -197,7 +211,7 @@ module _ (L : Layout) {U : Type 0} (D : Trace U) (budget : ℕ) (K : Callee U) (
   unfolding compiledBlock runBlock
   inactive-done S pc arm rc k h z t vs cs o = fine (onward (unchanged-refl (o .size)))
 
-  pub inactive-step : (l : ℕ) (s : Statement) (b : Block) → Inactive s → InactiveBlock b → InactiveBlock (step l s b)
+  pub inactive-step : (l : ℕ) (s : Statement) (b : Block) → Inactive s → InactiveBlock b → InactiveBlock (sequence l s b)
   unfolding compiledBlock
   inactive-step l s b qs qb S pc arm rc k h z t vs cs o =
       safe-followed D budget (L .arrays) K (code L s pc arm rc k) _ z t vs cs cs (qs l S pc arm rc k (first-statement h) z t vs cs o)
@@ -219,4 +233,4 @@ module _ (L : Layout) {U : Type 0} (D : Trace U) (budget : ℕ) (K : Callee U) (
 
     pub inactive-block : (b : Block) → InactiveBlock b
     inactive-block done = inactive-done
-    inactive-block (step l s b) = inactive-step l s b (inactive s) (inactive-block b)
+    inactive-block (sequence l s b) = inactive-step l s b (inactive s) (inactive-block b)

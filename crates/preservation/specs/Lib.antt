@@ -1,5 +1,4 @@
 pub mod Relations
-pub mod Tests
 pub mod Contexts
 pub mod Evaluations
 pub mod WellRead
@@ -11,7 +10,6 @@ pub mod Acts
 pub mod Inactive
 pub mod Frames
 pub mod Simulation
-pub mod NoFault
 pub mod Marks
 pub mod Bodies
 pub mod Starts

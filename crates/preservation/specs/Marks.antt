@@ -8,9 +8,10 @@ use lib.Dec.{leb}
 use lib.ListN.{length, getD, set, length-set}
 use lib.Seq.{getD-set-same}
 use borrow.Author.Tests.{leb-false}
-use Rattle.definitions.specs.Image.{Statement, assign, store, conditional, loop, return, call, Block, done, step, Procedure}
+use Rattle.definitions.specs.Image.{Statement, assign, store, conditional, loop, return, call, Block, done, sequence}
+use Rattle.definitions.specs.Image.{Procedure}
 use Rattle.definitions.specs.Sorts.{outside, inside, markStatement, markBlock, statementSortFaults, blockSortFaults}
-use Rattle.preservation.specs.Tests.{kept, empties, empties, empties}
+use Rattle.laws.specs.Tests.{kept, empties}
 use Rattle.preservation.specs.Rules.{markedStatement, markedBlock, set-either}
 
 mutual
@@ -26,7 +27,7 @@ mutual
 
   pub mark-length-block : (b : Block) (m : List ℕ) → length (markBlock b m) ≡ length m
   mark-length-block done m = refl
-  mark-length-block (step l s b) m = mark-length-block b (markStatement s m) ∙ mark-length s m
+  mark-length-block (sequence l s b) m = mark-length-block b (markStatement s m) ∙ mark-length s m
 
 -- a variable that is marked stays so
 mutual
@@ -42,7 +43,7 @@ mutual
 
   pub mark-stays-block : (b : Block) (m : List ℕ) (x : ℕ) → getD m x 0 ≡ outside → getD (markBlock b m) x 0 ≡ outside
   mark-stays-block done m x h = h
-  mark-stays-block (step l s b) m x h = mark-stays-block b (markStatement s m) x (mark-stays s m x h)
+  mark-stays-block (sequence l s b) m x h = mark-stays-block b (markStatement s m) x (mark-stays s m x h)
 
 module _ (ps : List Procedure) (parameters : ℕ) (types : List ℕ) (result arrays : ℕ) (last : List ℕ) where
   mutual
@@ -66,6 +67,6 @@ module _ (ps : List Procedure) (parameters : ℕ) (types : List ℕ) (result arr
     pub mark-marks-block : (b : Block) (m marks : List ℕ) → length types ≤ length m → ((x : ℕ) → getD (markBlock b m) x 0 ≡ outside → getD last x 0 ≡ outside)
         → blockSortFaults ps parameters types result arrays marks b ≡ [] → markedBlock last b ≡ true
     mark-marks-block done m marks n h f = refl
-    mark-marks-block (step l s b) m marks n h f =
+    mark-marks-block (sequence l s b) m marks n h f =
         rw (mark-marks s m marks l n (λ x q. h x (mark-stays-block b (markStatement s m) x q)) (search empties))
         (mark-marks-block b (markStatement s m) marks (let e = mark-length s m in omega arith) h (search empties))

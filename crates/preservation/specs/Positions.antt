@@ -10,14 +10,15 @@ use lib.ListN.{length, getD, set, length-append, length-set}
 use lib.Seq.{getD-set-same, getD-set-other}
 use borrow.Author.Tests.{eqb-true, eqb-false}
 use Rattle.definitions.specs.Choice.{pick}
-use Rattle.definitions.specs.Image.{Expression, Statement, conditional, loop, call, Block, step}
+use Rattle.definitions.specs.Image.{Expression, Statement, conditional, loop, call, Block, sequence}
 use Rattle.definitions.specs.Sorts.{inside}
 use Rattle.definitions.specs.Labels.{rcAfter, rcAfterBlock, isConstant, constantValue, unbounded, boundsInside}
 use Rattle.definitions.specs.Compiling.{secretBoolean, temporaries, blockTemporaries, compiledStatement, compiledBlock}
-use Rattle.preservation.specs.Tests.{or-one, or-zero, or-left, or-right}
+use Rattle.laws.specs.Tests.{or-true, or-false, or-left, or-right}
 use Rattle.preservation.specs.Contexts.{rc-rises-block, rc-again}
 use Rattle.preservation.specs.Layouts.{Layout, Scope, Allocation, rcAfterAt, rcAfterBlockAt, secretAt}
-use Rattle.preservation.specs.Rules.{StatementRules, BlockRules, block-first, block-rest, if-then, if-else, loop-variable, loop-body}
+use Rattle.preservation.specs.Rules.{StatementRules, BlockRules, block-first, block-rest, if-then, if-else}
+use Rattle.preservation.specs.Rules.{loop-variable, loop-body}
 
 -- the temporaries of a statement and of a block, by their type words, and their number
 abbrev pub temporariesAt : Layout → Bool → Bool → Statement → List ℕ
@@ -98,7 +99,7 @@ allocation-arm {L} {S} {k = k} {k′} {size} {size′} h new p q u v e =
     }
 
 module _ {L : Layout} {S : Scope} {pc : Bool} {arm : ℕ} {rc : Bool} {k : ℕ} where
-  pub first-statement : {l : ℕ} {s : Statement} {b : Block} → BlockAt L S pc arm rc k (step l s b) → StatementAt L S pc arm rc k l s
+  pub first-statement : {l : ℕ} {s : Statement} {b : Block} → BlockAt L S pc arm rc k (sequence l s b) → StatementAt L S pc arm rc k l s
   unfolding rcAfterBlock blockTemporaries
   first-statement {l} {s} {b} h =
       let e = length-append (temporariesAt L pc rc s) (blockTemporariesAt L pc (rcAfterAt L pc rc s) b) in
@@ -108,7 +109,7 @@ module _ {L : Layout} {S : Scope} {pc : Bool} {arm : ℕ} {rc : Bool} {k : ℕ} 
             (λ q. h .allocation .ends (rc-rises-block (L .types) (L .arrays) b pc (rcAfterAt L pc rc s) q));
       }
 
-  pub rest-block : {l : ℕ} {s : Statement} {b : Block} → BlockAt L S pc arm rc k (step l s b)
+  pub rest-block : {l : ℕ} {s : Statement} {b : Block} → BlockAt L S pc arm rc k (sequence l s b)
       → BlockAt L S pc arm (rcAfterAt L pc rc s) (k + sizeOf L pc rc s) b
   unfolding rcAfterBlock blockTemporaries
   rest-block {l} {s} {b} h =
@@ -142,7 +143,7 @@ module _ {L : Layout} {S : Scope} {pc : Bool} {arm : ℕ} {rc : Bool} {k l : ℕ
   pub secret-then : secretAt L c ≡ true → BlockAt L (widened S (k + 2)) true k rc (k + 2) a
   secret-then e =
       let n = if-size true e in
-      let p : (pc || true) ≡ true = or-one pc in
+      let p : (pc || true) ≡ true = or-true pc in
       let o : BlockRules L (S .marks) (S .bounds) (pc || true) rc a = rw e at (if-then (h .rules)) in
       let z : Allocation L (widened S (k + 2)) true k rc (k + 2) (sizeOfBlock L (pc || true) rc a) (rcAfterBlockAt L (pc || true) rc a)
       = allocation-arm (h .allocation) k (omega arith) (omega arith) (omega arith) (omega arith) (if-end-then true e) in
@@ -151,7 +152,7 @@ module _ {L : Layout} {S : Scope} {pc : Bool} {arm : ℕ} {rc : Bool} {k l : ℕ
   pub secret-else : secretAt L c ≡ true → BlockAt L (widened S (k + 2)) true (k + 1) rc (k + 2 + sizeOfBlock L true rc a) b
   secret-else e =
       let n = if-size true e in
-      let p : (pc || true) ≡ true = or-one pc in
+      let p : (pc || true) ≡ true = or-true pc in
       let o : BlockRules L (S .marks) (S .bounds) (pc || true) rc b = rw e at (if-else (h .rules)) in
       let z : Allocation L (widened S (k + 2)) true (k + 1) rc (k + 2 + sizeOfBlock L (pc || true) rc a) (sizeOfBlock L (pc || true) rc b) (rcAfterBlockAt L (pc || true) rc b)
       = allocation-arm (h .allocation) (k + 1) (omega arith) (omega arith) (omega arith) (omega arith) (if-end-else true e) in
@@ -160,7 +161,7 @@ module _ {L : Layout} {S : Scope} {pc : Bool} {arm : ℕ} {rc : Bool} {k l : ℕ
   pub public-then : secretAt L c ≡ false → BlockAt L S pc arm rc k a
   public-then e =
       let n = if-size false e in
-      let p : (pc || false) ≡ pc = or-zero pc in
+      let p : (pc || false) ≡ pc = or-false pc in
       let o : BlockRules L (S .marks) (S .bounds) (pc || false) rc a = rw e at (if-then (h .rules)) in
       let z : Allocation L S pc arm rc k (sizeOfBlock L (pc || false) rc a) (rcAfterBlockAt L (pc || false) rc a)
       = allocation-part (h .allocation) (omega arith) (omega arith) (h .allocation .begins) (if-end-then false e) in
@@ -169,7 +170,7 @@ module _ {L : Layout} {S : Scope} {pc : Bool} {arm : ℕ} {rc : Bool} {k l : ℕ
   pub public-else : secretAt L c ≡ false → BlockAt L S pc arm rc (k + sizeOfBlock L pc rc a) b
   public-else e =
       let n = if-size false e in
-      let p : (pc || false) ≡ pc = or-zero pc in
+      let p : (pc || false) ≡ pc = or-false pc in
       let o : BlockRules L (S .marks) (S .bounds) (pc || false) rc b = rw e at (if-else (h .rules)) in
       let z : Allocation L S pc arm rc (k + sizeOfBlock L (pc || false) rc a) (sizeOfBlock L (pc || false) rc b) (rcAfterBlockAt L (pc || false) rc b)
       = allocation-part (h .allocation) (omega arith) (omega arith) (h .allocation .begins) (if-end-else false e) in

@@ -3,7 +3,7 @@
 use mathlib.Core.Path.{_≡_, refl, sym, _∙_, ap}
 use mathlib.Core.Logic.{_≢_}
 use mathlib.Core.Bool.{Bool, true, false, true≢false}
-use mathlib.Core.List.{List, [], _∷_, _++_, append-nil}
+use mathlib.Core.List.{List, [], _∷_, _++_, append-nil, flatMap}
 use Prim.Native.Nat.{ℕ, zero, suc, _+_, _-_, _<_, _≤_}
 use native.Mathlib.Omega.{arith}
 use lib.Dec.{leb, eqb}
@@ -15,14 +15,15 @@ use Rattle.definitions.specs.Image.{Procedure, Image, guarded, procedureAt}
 use Rattle.definitions.specs.Sorts.{procedureSortFaults, proceduresSortFaults, imageSortFaults}
 use Rattle.definitions.specs.Labels.{procedureLabelFaults, proceduresLabelFaults, imageLabelFaults}
 use Rattle.definitions.specs.Checking.{faultOf}
-use Rattle.definitions.specs.Compiling.{guards, compiledTypes, compiledProcedure, compiledProcedures, compiledImage, fitLocals}
+use Rattle.definitions.specs.Compiling.{guards, compiledTypes, compiledProcedure, compiledProcedures, compiledImage}
+use Rattle.definitions.specs.Compiling.{fitLocals}
 use Rattle.definitions.specs.Running.{Trace, Ran, andGo, Given, Callee, frame, finish, runBlock, runProcedure}
-use Rattle.preservation.specs.Tests.{empties, conjuncts, empties, conjuncts, empties, conjuncts}
+use Rattle.laws.specs.Tests.{empties, conjuncts}
+use Rattle.laws.specs.Faultless.{faultless}
 use Rattle.preservation.specs.WellRead.{wellReadProcedure, wellReadProcedures, wellRead}
 use Rattle.preservation.specs.Relations.{Safe, fine, Sim, meet}
 use Rattle.preservation.specs.Inactive.{Unmoved, unmoved, InactiveCallee}
 use Rattle.preservation.specs.Simulation.{SameGiven, sameGiven, SimCallee}
-use Rattle.preservation.specs.NoFault.{no-faults}
 use Rattle.preservation.specs.Bodies.{Accepted}
 use Rattle.preservation.specs.Procedures.{sim-body, inactive-body}
 
@@ -35,13 +36,13 @@ module _ (I : Image) where
   procedure-well (q ∷ qs) (suc n) i h = procedure-well qs n (omega arith) (search conjuncts)
 
   pub procedure-sorts : (qs : List Procedure) (n : ℕ) → n < length qs → proceduresSortFaults (I .procedures) (length (I .arrays)) qs ≡ [] → procedureSortFaults (I .procedures) (length (I .arrays)) (procedureAt qs n) ≡ []
-  unfolding proceduresSortFaults
+  unfolding proceduresSortFaults flatMap
   procedure-sorts [] n i h = absurd (omega arith)
   procedure-sorts (q ∷ qs) zero i h = search empties
   procedure-sorts (q ∷ qs) (suc n) i h = procedure-sorts qs n (omega arith) (search empties)
 
   pub procedure-labels : (qs : List Procedure) (n : ℕ) → n < length qs → proceduresLabelFaults I qs ≡ [] → procedureLabelFaults I (procedureAt qs n) ≡ []
-  unfolding proceduresLabelFaults
+  unfolding proceduresLabelFaults flatMap
   procedure-labels [] n i h = absurd (omega arith)
   procedure-labels (q ∷ qs) zero i h = search empties
   procedure-labels (q ∷ qs) (suc n) i h = procedure-labels qs n (omega arith) (search empties)
@@ -73,7 +74,7 @@ pub record Compilable (I : Image) : Type 0 where
 pub accepted-at : (I : Image) → Compilable I → (n : ℕ) → n < length (I .procedures) → Accepted I (procedureAt (I .procedures) n)
 unfolding wellRead imageSortFaults imageLabelFaults compiledImage
 accepted-at I c n i =
-    let f = no-faults I (c .clean) in
+    let f = faultless I (c .clean) in
     record {
       well = procedure-well I (I .procedures) n i (c .well);
       sorts = procedure-sorts I (I .procedures) n i (f .0);

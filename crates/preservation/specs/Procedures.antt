@@ -9,15 +9,20 @@ use native.Mathlib.Omega.{arith}
 use lib.ListN.{length, getD, set, length-append, length-set}
 use lib.Seq.{getD-set-other}
 use Rattle.definitions.specs.Image.{boolean, variable, return, assign, Procedure, Image, guarded}
-use Rattle.definitions.specs.Compiling.{one, followedBy, closed, defers, guards, returnVariable, firstTemporary, compiledBody}
-use Rattle.definitions.specs.Running.{Trace, on, andGo, after, evaluate, Outcome, next, back, Callee, frame, finish, runStatement, runBlock}
-use Rattle.preservation.specs.Relations.{SafeValue, sound, Safe, fine, Sim, meet, safe-within, safe-go, safe-map, sim-go, sim-map, sim-then, sim-more, emitted}
-use Rattle.preservation.specs.Runs.{Next, onward, run-followed, safe-one, safe-step, safe-followed, safe-assign, sim-assign-right}
+use Rattle.definitions.specs.Compiling.{one, followedBy, closed, defers, guards, returnVariable, firstTemporary}
+use Rattle.definitions.specs.Compiling.{compiledBody}
+use Rattle.definitions.specs.Running.{Trace, on, andGo, after, evaluate, Outcome, next, back, Callee, frame, finish}
+use Rattle.definitions.specs.Running.{runStatement, runBlock}
+use Rattle.preservation.specs.Relations.{SafeValue, sound, Safe, fine, Sim, meet, safe-within, safe-go, safe-map}
+use Rattle.preservation.specs.Relations.{sim-go, sim-map, sim-then, sim-more, emitted}
+use Rattle.preservation.specs.Runs.{Next, onward, run-followed, safe-one, safe-step, safe-followed, safe-assign}
+use Rattle.preservation.specs.Runs.{sim-assign-right}
 use Rattle.preservation.specs.Acts.{Unchanged}
 use Rattle.preservation.specs.Inactive.{Unmoved, unmoved, InactiveCallee, inactive-block}
 use Rattle.preservation.specs.Frames.{EndAlike, going, quit, deferred}
 use Rattle.preservation.specs.Simulation.{SameGiven, sameGiven, SimCallee, simulated-block}
-use Rattle.preservation.specs.Bodies.{Accepted, layoutOf, scopeOf, bodyCode, few-parameters, typed-parameters, guards-few, body-block}
+use Rattle.preservation.specs.Bodies.{Accepted, layoutOf, scopeOf, bodyCode, few-parameters, typed-parameters}
+use Rattle.preservation.specs.Bodies.{guards-few, body-block}
 use Rattle.preservation.specs.Starts.{frame-value, frame-length, started, opened, off-start}
 
 -- how the body ends and how its code does: the code falls off its end or returns what the source does, 0 where that falls off its end

@@ -7,11 +7,14 @@ use native.Mathlib.Omega.{arith}
 use lib.Dec.{ltb, leb, eqb}
 use lib.ListN.{length, getD, set}
 use borrow.Author.Tests.{leb-true, leb-false, eqb-true, eqb-false, not-false}
-use Rattle.definitions.specs.Image.{arrayLength, typeSecret, typeSort, Expression, placeOf, Statement, assign, store, conditional, loop, return, call, Block, done, step, guarded, procedureAt}
+use Rattle.definitions.specs.Image.{arrayLength, typeSecret, typeSort, Expression, placeOf, Statement, assign, store}
+use Rattle.definitions.specs.Image.{conditional, loop, return, call, Block, done, sequence, guarded, procedureAt}
 use Rattle.definitions.specs.Operators.{booleanSort}
-use Rattle.definitions.specs.Sorts.{ordinary, outside, inside, sortFaults, argumentFaults, statementSortFaults, blockSortFaults}
-use Rattle.definitions.specs.Labels.{isConstant, boundedIndex, boundsInside, labelFaults, argumentLabelFaults, statementLabelFaults, blockLabelFaults}
-use Rattle.preservation.specs.Tests.{and-left, and-right, and-fails, or-fails-right, kept, empties, conjuncts, empties, conjuncts, empties, conjuncts}
+use Rattle.definitions.specs.Sorts.{ordinary, outside, inside, sortFaults, argumentFaults, statementSortFaults}
+use Rattle.definitions.specs.Sorts.{blockSortFaults}
+use Rattle.definitions.specs.Labels.{isConstant, boundedIndex, boundsInside, labelFaults, argumentLabelFaults}
+use Rattle.definitions.specs.Labels.{statementLabelFaults, blockLabelFaults}
+use Rattle.laws.specs.Tests.{and-left, and-right, and-fails, or-fails-right, kept, empties, conjuncts}
 use Rattle.preservation.specs.WellRead.{countedStatement, countedBlock}
 use Rattle.preservation.specs.Layouts.{Layout, rcAfterAt, rcAfterBlockAt, secretAt}
 
@@ -27,7 +30,7 @@ unfoldable mutual
 
   pub markedBlock : List ℕ → Block → Bool
   markedBlock marks done = true
-  markedBlock marks (step l s b) = markedStatement marks s && markedBlock marks b
+  markedBlock marks (sequence l s b) = markedStatement marks s && markedBlock marks b
 
 -- writing an entry of a list gives it there or nowhere
 pub set-either : (m : List ℕ) (x v y : ℕ) (P : ℕ → Type 0) → P v → P (getD m y 0) → P (getD (set m x v) y 0)
@@ -55,7 +58,7 @@ mutual
 
   pub marked-inside-block : (marks : List ℕ) (x : ℕ) (b : Block) → markedBlock marks b ≡ true → markedBlock (set marks x inside) b ≡ true
   marked-inside-block marks x done h = refl
-  marked-inside-block marks x (step l s b) h =
+  marked-inside-block marks x (sequence l s b) h =
       rw (marked-inside marks x s (and-left (markedStatement marks s) (markedBlock marks b) h)) (marked-inside-block marks x b (and-right (markedStatement marks s) (markedBlock marks b) h))
 
 -- a statement that keeps all rules where it stands
@@ -196,13 +199,13 @@ module _ {L : Layout} {marks bounds : List ℕ} {pc rc : Bool} {l : ℕ} where
   call-count {f} {x} {es} h = eqb-true (length es) (procedureAt (L .procedures) f .parameters) (h .counts)
 
 module _ {L : Layout} {marks bounds : List ℕ} {pc rc : Bool} where
-  pub block-first : {l : ℕ} {s : Statement} {b : Block} → BlockRules L marks bounds pc rc (step l s b) → StatementRules L marks bounds pc rc l s
+  pub block-first : {l : ℕ} {s : Statement} {b : Block} → BlockRules L marks bounds pc rc (sequence l s b) → StatementRules L marks bounds pc rc l s
   unfolding blockSortFaults blockLabelFaults countedBlock markedBlock
   block-first h =
       let s = h .sorts in let t = h .labels in let u = h .counts in let v = h .marked in
       record { sorts = search empties; labels = search empties; counts = search conjuncts; marked = search conjuncts }
 
-  pub block-rest : {l : ℕ} {s : Statement} {b : Block} → BlockRules L marks bounds pc rc (step l s b) → BlockRules L marks bounds pc (rcAfterAt L pc rc s) b
+  pub block-rest : {l : ℕ} {s : Statement} {b : Block} → BlockRules L marks bounds pc rc (sequence l s b) → BlockRules L marks bounds pc (rcAfterAt L pc rc s) b
   unfolding blockSortFaults blockLabelFaults countedBlock markedBlock
   block-rest h =
       let s = h .sorts in let t = h .labels in let u = h .counts in let v = h .marked in

@@ -8,10 +8,13 @@ use lib.Dec.{ltb, eqb}
 use lib.ListN.{set}
 use Rattle.definitions.specs.Choice.{pick}
 use Rattle.definitions.specs.Arithmetic.{truth}
-use Rattle.definitions.specs.Image.{Expression, Statement, assign, conditional, loop, Block, done, step}
+use Rattle.definitions.specs.Image.{Expression, Statement, assign, conditional, loop, Block, done, sequence}
 use Rattle.definitions.specs.Compiling.{followedBy, one}
-use Rattle.definitions.specs.Running.{Trace, Evaluated, value, Ran, on, halt, within, andGo, after, tick, Outcome, next, back, Body, Callee, emit, evaluate, passes, taken, runStatement, runBlock}
-use Rattle.preservation.specs.Relations.{SafeValue, sound, short, Safe, fine, SimValue, same, leftShort, rightShort, broke, Sim, left, right, fail, safe-tick, safe-go, safe-within, tick-right, emitted}
+use Rattle.definitions.specs.Running.{Trace, Evaluated, value, Ran, on, halt, within, andGo, after, tick, Outcome, next}
+use Rattle.definitions.specs.Running.{back, Body, Callee, emit, evaluate, passes, taken, runStatement, runBlock}
+use Rattle.preservation.specs.Relations.{SafeValue, sound, short, Safe, fine, SimValue, same, leftShort}
+use Rattle.preservation.specs.Relations.{rightShort, broke, Sim, left, right, fail, safe-tick, safe-go}
+use Rattle.preservation.specs.Relations.{safe-within, tick-right, emitted}
 
 -- the outcome is to go on, with variables of a property and the given cells
 pub data Next (P : List ℕ → Type 0) (cs : List ℕ) : Outcome → Type 0 where
@@ -32,7 +35,7 @@ module _ {T : Type 0} (C : Trace T) (budget : ℕ) (arrays : List ℕ) (K : Call
       → runBlock C budget arrays K (followedBy a b) z t vs cs ≡ andGo (runBlock C budget arrays K a z t vs cs) (after (λ w v us ds. runBlock C budget arrays K b w v us ds))
   unfolding followedBy runBlock tick
   run-followed done b z t vs cs = refl
-  run-followed (step l s a) b z t vs cs = go (λ w v us ds. run-followed a b w v us ds) (ltb z budget)
+  run-followed (sequence l s a) b z t vs cs = go (λ w v us ds. run-followed a b w v us ds) (ltb z budget)
     where
       go : ((w : ℕ) (v : T) (us ds : List ℕ) → runBlock C budget arrays K (followedBy a b) w v us ds ≡ andGo (runBlock C budget arrays K a w v us ds) (after (λ w v us ds. runBlock C budget arrays K b w v us ds)))
           → (c : Bool)
@@ -49,7 +52,7 @@ module _ {T : Type 0} (C : Trace T) (budget : ℕ) (arrays : List ℕ) (K : Call
   after-nothing (halt n l z t) = refl
 
   pub run-step : (l : ℕ) (s : Statement) (b : Block) (z : ℕ) (t : T) (vs cs : List ℕ)
-      → runBlock C budget arrays K (step l s b) z t vs cs
+      → runBlock C budget arrays K (sequence l s b) z t vs cs
       ≡ tick budget l z t (λ y u. andGo (runStatement C budget arrays K l s y u vs cs) (after (λ w v us ds. runBlock C budget arrays K b w v us ds)))
   unfolding runBlock
   run-step l s b z t vs cs = refl
@@ -68,7 +71,7 @@ module _ {T : Type 0} (C : Trace T) (budget : ℕ) (arrays : List ℕ) (K : Call
 
   pub safe-step : {P : List ℕ → Type 0} {Q : Outcome → Type 0} (s : Statement) (b : Block) (z : ℕ) (t : T) (vs cs ds : List ℕ)
       → ((y : ℕ) → Safe (Next P ds) (runStatement C budget arrays K 0 s y t vs cs))
-      → ((y : ℕ) (u : T) (us : List ℕ) → P us → Safe Q (runBlock C budget arrays K b y u us ds)) → Safe Q (runBlock C budget arrays K (step 0 s b) z t vs cs)
+      → ((y : ℕ) (u : T) (us : List ℕ) → P us → Safe Q (runBlock C budget arrays K b y u us ds)) → Safe Q (runBlock C budget arrays K (sequence 0 s b) z t vs cs)
   unfolding runBlock
   safe-step {P} {Q} s b z t vs cs ds k j = safe-tick budget 0 z t _ λ y. safe-go (k y) λ o w u p. go o w u p
     where
@@ -128,7 +131,7 @@ module _ {T U : Type 0} (D : Trace U) (budget : ℕ) (arrays : List ℕ) (K : Ca
   -- an assignment whose value the source evaluates too
   pub sim-assign : {A B : Type 0} {R : A → ℕ → Type 0} {S : B → Outcome → Type 0} (x : Evaluated T A) (f : A → T → Ran T B) (n k : ℕ) (e : Expression) (b : Block) (z : ℕ) (u : U) (vs cs : List ℕ)
       → SimValue R x (evaluate D arrays e vs cs u) → ((a : A) (v : ℕ) (t : T) (y : ℕ) (w : U) → R a v → Sim S (f a t) (runBlock D budget arrays K b y w (set vs k v) cs))
-      → Sim S (within n x f) (runBlock D budget arrays K (step 0 (assign k e) b) z u vs cs)
+      → Sim S (within n x f) (runBlock D budget arrays K (sequence 0 (assign k e) b) z u vs cs)
   unfolding runBlock runStatement
   sim-assign {A} {B} {R} {S} x f n k e b z u vs cs h j = tick-right budget 0 z u _ (within n x f) λ y. go y h
     where
@@ -142,7 +145,7 @@ module _ {T U : Type 0} (D : Trace U) (budget : ℕ) (arrays : List ℕ) (K : Ca
   -- an assignment of the compiled run alone
   pub sim-assign-right : {A : Type 0} {P : ℕ → Type 0} {S : A → Outcome → Type 0} (x : Ran T A) (k : ℕ) (e : Expression) (b : Block) (z : ℕ) (u : U) (vs cs : List ℕ)
       → SafeValue P (evaluate D arrays e vs cs u) → ((v y : ℕ) (w : U) → P v → Sim S x (runBlock D budget arrays K b y w (set vs k v) cs))
-      → Sim S x (runBlock D budget arrays K (step 0 (assign k e) b) z u vs cs)
+      → Sim S x (runBlock D budget arrays K (sequence 0 (assign k e) b) z u vs cs)
   unfolding runBlock runStatement
   sim-assign-right {A} {P} {S} x k e b z u vs cs h j = tick-right budget 0 z u _ x λ y. go y h
     where

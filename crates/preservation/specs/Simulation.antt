@@ -12,20 +12,38 @@ use borrow.Author.Tests.{eqb-true, eqb-false}
 use Rattle.definitions.specs.Choice.{pick}
 use Rattle.definitions.specs.Arithmetic.{truth, logicalAnd, logicalNot}
 use Rattle.definitions.specs.Operators.{applyBinary, applyUnary}
-use Rattle.definitions.specs.Image.{arrayLength, Expression, boolean, variable, cell, unary, select, Statement, assign, store, conditional, loop, return, call, Block, done, step, Procedure, guarded, procedureAt}
+use Rattle.definitions.specs.Image.{arrayLength, Expression, boolean, variable, cell, unary, select, Statement, assign}
+use Rattle.definitions.specs.Image.{store, conditional, loop, return, call, Block, done, sequence, Procedure, guarded}
+use Rattle.definitions.specs.Image.{procedureAt}
 use Rattle.definitions.specs.Labels.{rcAfter, rcAfterBlock, isConstant, constantValue}
-use Rattle.definitions.specs.Compiling.{masked, under, one, followedBy, compiledReturn, compiledCall, compiledStatement, compiledBlock}
-use Rattle.definitions.specs.Running.{Trace, value, on, within, andGo, after, emit, operated, evaluate, evaluateAll, Outcome, next, back, Given, gave, Callee, Body, passes, taken, received, runStatement, runBlock}
-use Rattle.preservation.specs.Relations.{SafeValue, sound, SimValue, same, Sim, meet, safe-bind, sim-within, sim-go, sim-left, sim-more, sim-first, sim-then, sim-map, sim-value-map, sim-value-then, both, emitted, tick-left, tick-right}
-use Rattle.preservation.specs.Contexts.{rc-rises-block, rc-again, rc-secret-then, rc-secret-else, rc-public-then, rc-public-else}
-use Rattle.preservation.specs.Evaluations.{index-value, safe-index, short-array, sim-index, sim-value, sim-bound, sim-values}
-use Rattle.preservation.specs.Layouts.{Layout, Scope, Reserved, Allocation, actAt, operand, operands, rcAfterAt, rcAfterBlockAt, secretAt, slot}
-use Rattle.preservation.specs.Rules.{ExpressionRules, assign-variable, assign-value, store-index, store-value, store-bounded, if-condition, loop-from, loop-to, return-value, call-variable, call-sorts, call-guarded, call-count}
-use Rattle.preservation.specs.Positions.{code, codes, sizeOf, sizeOfBlock, StatementAt, BlockAt, widened, entered, first-statement, rest-block, secret-then, secret-else, public-then, public-else, loop-block, loop-allocation, call-room}
-use Rattle.preservation.specs.Runs.{Next, onward, run-followed, run-step, run-conditional, sim-one, sim-assign, sim-assign-right}
-use Rattle.preservation.specs.Acts.{offArm, offLive, On, act-value, actOf, act-on, on-select, on-select-value, truth-zero, Unchanged, bound-below, code-if-secret, code-if-public}
+use Rattle.definitions.specs.Compiling.{masked, under, one, followedBy, compiledReturn, compiledCall, compiledStatement}
+use Rattle.definitions.specs.Compiling.{compiledBlock}
+use Rattle.definitions.specs.Running.{Trace, value, on, within, andGo, after, emit, operated, evaluate, evaluateAll}
+use Rattle.definitions.specs.Running.{Outcome, next, back, Given, gave, Callee, Body, passes, taken, received}
+use Rattle.definitions.specs.Running.{runStatement, runBlock}
+use Rattle.preservation.specs.Relations.{SafeValue, sound, SimValue, same, Sim, meet, safe-bind, sim-within}
+use Rattle.preservation.specs.Relations.{sim-go, sim-left, sim-more, sim-first, sim-then, sim-map, sim-value-map}
+use Rattle.preservation.specs.Relations.{sim-value-then, both, emitted, tick-left, tick-right}
+use Rattle.preservation.specs.Contexts.{rc-rises-block, rc-again, rc-secret-then, rc-secret-else, rc-public-then}
+use Rattle.preservation.specs.Contexts.{rc-public-else}
+use Rattle.preservation.specs.Evaluations.{index-value, safe-index, short-array, sim-index, sim-value, sim-bound}
+use Rattle.preservation.specs.Evaluations.{sim-values}
+use Rattle.preservation.specs.Layouts.{Layout, Scope, Reserved, Allocation, actAt, operand, operands, rcAfterAt}
+use Rattle.preservation.specs.Layouts.{rcAfterBlockAt, secretAt, slot}
+use Rattle.preservation.specs.Rules.{ExpressionRules, assign-variable, assign-value, store-index, store-value}
+use Rattle.preservation.specs.Rules.{store-bounded, if-condition, loop-from, loop-to, return-value, call-variable}
+use Rattle.preservation.specs.Rules.{call-sorts, call-guarded, call-count}
+use Rattle.preservation.specs.Positions.{code, codes, sizeOf, sizeOfBlock, StatementAt, BlockAt, widened, entered}
+use Rattle.preservation.specs.Positions.{first-statement, rest-block, secret-then, secret-else, public-then}
+use Rattle.preservation.specs.Positions.{public-else, loop-block, loop-allocation, call-room}
+use Rattle.preservation.specs.Runs.{Next, onward, run-followed, run-step, run-conditional, sim-one, sim-assign}
+use Rattle.preservation.specs.Runs.{sim-assign-right}
+use Rattle.preservation.specs.Acts.{offArm, offLive, On, act-value, actOf, act-on, on-select, on-select-value}
+use Rattle.preservation.specs.Acts.{truth-zero, Unchanged, bound-below, code-if-secret, code-if-public}
 use Rattle.preservation.specs.Inactive.{InactiveCallee, inactive-passes, inactive-block}
-use Rattle.preservation.specs.Frames.{Live, EndAlike, going, quit, deferred, end-alike-rise, live-still, deferred-still, live-free, live-assign, live-return, live-widen, live-narrow, deferred-narrow, live-enter, live-leave, deferred-leave}
+use Rattle.preservation.specs.Frames.{Live, EndAlike, going, quit, deferred, end-alike-rise, live-still}
+use Rattle.preservation.specs.Frames.{deferred-still, live-free, live-assign, live-return, live-widen}
+use Rattle.preservation.specs.Frames.{live-narrow, deferred-narrow, live-enter, live-leave, deferred-leave}
 
 -- the same result and the same cells
 pub data SameGiven : Given → Given → Type 0 where
@@ -154,7 +172,7 @@ module _ (L : Layout) {T U : Type 0} (C : Trace T) (D : Trace U) (budget budget�
   pub simulate-call-secret : (f x : ℕ) (es : List Expression) (l : ℕ) (S : Scope) (pc : Bool) (arm : ℕ) (rc : Bool) (k : ℕ) → StatementAt L S pc arm rc k l (call f x es) → (val : ℕ → ℕ) → (pc ≡ true → val arm ≢ 0) → (pc || rc) ≡ true
       → (z : ℕ) (t : T) (y : ℕ) (u : U) (us vs cs : List ℕ) → Live L S val us vs
       → Sim (EndAlike L S val rc) (runStatement C budget (L .arrays) J l (call f x es) z t us cs)
-      (target (step 0 (call f k (operands L es ++ (actAt L pc arm rc ∷ []))) (one (assign (slot L x) (select 0 (actAt L pc arm rc) (variable 0 k) (variable 0 (slot L x)))))) y u vs cs)
+      (target (sequence 0 (call f k (operands L es ++ (actAt L pc arm rc ∷ []))) (one (assign (slot L x) (select 0 (actAt L pc arm rc) (variable 0 k) (variable 0 (slot L x)))))) y u vs cs)
   unfolding runStatement runBlock
   simulate-call-secret f x es l S pc arm rc k h val o s z t y u us vs cs m =
       tick-right budget′ 0 y u _ _ λ w. sim-then
@@ -389,7 +407,7 @@ module _ (L : Layout) {T U : Type 0} (C : Trace T) (D : Trace U) (budget budget�
   unfolding compiledBlock runBlock
   simulate-done S pc arm rc k h val o z t y u us vs cs m = meet (going m)
 
-  pub simulate-step : (l : ℕ) (s : Statement) (b : Block) → Simulated s → SimulatedBlock b → SimulatedBlock (step l s b)
+  pub simulate-step : (l : ℕ) (s : Statement) (b : Block) → Simulated s → SimulatedBlock b → SimulatedBlock (sequence l s b)
   unfolding compiledBlock rcAfterBlock
   simulate-step l s b ms mb S pc arm rc k h val o z t y u us vs cs m =
       rw (
@@ -422,4 +440,4 @@ module _ (L : Layout) {T U : Type 0} (C : Trace T) (D : Trace U) (budget budget�
 
     pub simulated-block : (b : Block) → SimulatedBlock b
     simulated-block done = simulate-done
-    simulated-block (step l s b) = simulate-step l s b (simulated s) (simulated-block b)
+    simulated-block (sequence l s b) = simulate-step l s b (simulated s) (simulated-block b)

@@ -6,7 +6,8 @@ use mathlib.Core.List.{List, [], _∷_, _++_}
 use Prim.Native.Nat.{ℕ, zero, suc, _+_, _-_, _<_, _≤_}
 use native.Mathlib.Omega.{arith}
 use lib.Dec.{ltb}
-use lib.ListN.{length, getD, set, replicate, length-append, length-set, length-replicate, List·getD-append, List·getD-eq-default}
+use lib.ListN.{length, getD, set, replicate, length-append, length-set, length-replicate, List·getD-append}
+use lib.ListN.{List·getD-eq-default}
 use lib.Seq.{getD-set-same, getD-set-other, getD-append-seam}
 use borrow.Author.Tests.{ltb-true, ltb-false}
 use Rattle.definitions.specs.Choice.{pick}
@@ -16,7 +17,8 @@ use Rattle.definitions.specs.Compiling.{renamed, defers, guards, returnVariable
 use Rattle.definitions.specs.Running.{frame}
 use Rattle.preservation.specs.Acts.{offArm, OffFrame}
 use Rattle.preservation.specs.Frames.{Live}
-use Rattle.preservation.specs.Bodies.{Accepted, layoutOf, scopeOf, getD-default, few-parameters, typed-parameters, guards-few, body-block}
+use Rattle.preservation.specs.Bodies.{Accepted, layoutOf, scopeOf, getD-default, few-parameters, typed-parameters}
+use Rattle.preservation.specs.Bodies.{guards-few, body-block}
 
 -- frames: arguments, then zeros
 pub padded : (ws : List ℕ) (m x : ℕ) → getD (ws ++ replicate m 0) x 0 ≡ getD ws x 0

@@ -4,7 +4,8 @@ use mathlib.Core.Bool.{Bool, true, _&&_}
 use mathlib.Core.List.{List, [], _∷_}
 use lib.Dec.{leb, eqb}
 use lib.ListN.{length}
-use Rattle.definitions.specs.Image.{Statement, assign, store, conditional, loop, return, call, Block, done, step, Procedure, Image, procedureAt}
+use Rattle.definitions.specs.Image.{Statement, assign, store, conditional, loop, return, call, Block, done, sequence}
+use Rattle.definitions.specs.Image.{Procedure, Image, procedureAt}
 
 unfoldable mutual
   pub countedStatement : List Procedure → Statement → Bool
@@ -17,7 +18,7 @@ unfoldable mutual
 
   pub countedBlock : List Procedure → Block → Bool
   countedBlock ps done = true
-  countedBlock ps (step l s b) = countedStatement ps s && countedBlock ps b
+  countedBlock ps (sequence l s b) = countedStatement ps s && countedBlock ps b
 
 unfoldable pub wellReadProcedure : List Procedure → Procedure → Bool
 wellReadProcedure ps p = leb (p .parameters) 8 && (leb (p .parameters) (length (p .types)) && countedBlock ps (p .body))

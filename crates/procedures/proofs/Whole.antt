@@ -1,19 +1,20 @@
 -- What the returns of a procedure's parts give. Assumes nothing.
-use Prim.Native.Nat.{ℕ, zero, suc, _+_, _*_, _-_, _≤_, _<_}
+use Prim.Native.Nat.{ℕ, _+_, _*_, _-_, _≤_}
 use mathlib.Core.Bool.{Bool, true, false}
 use mathlib.Core.List.{List, [], _∷_, _++_, append-assoc, append-nil}
 use mathlib.Core.Path.{_≡_, refl, sym, ap, _∙_}
 use native.Mathlib.Omega.{arith}
-use native.Mathlib.Nat.{zero-add}
 use lib.Dec.{eqb}
 use lib.ListN.{length, take, drop, length-append, take-append-drop}
 use Rattle.definitions.specs.Choice.{pick}
-use Rattle.definitions.specs.Image.{modeOf, parametersOf, boolean, variable, assign, return, Statement, Block, done, step, Procedure}
-use Rattle.definitions.specs.Reading.{Parse, got, refused}
+use Rattle.definitions.specs.Image.{modeOf, parametersOf, variable, return, Statement, Block, done, sequence}
+use Rattle.definitions.specs.Reading.{Parse, got}
 use Rattle.definitions.specs.Labels.{rcAfterBlock}
-use Rattle.definitions.specs.Encoding.{wordWith, statementWordWith, expressionWords, statementCount, statementWords, statementsWords, blockWords, procedureWords}
-use Rattle.definitions.specs.Compiling.{one, followedBy, closed, blockTemporaries, compiledBlock, compiledTypes, compiledBody, compiledProcedure}
-use Rattle.opening.specs.Parses.{ok, got-ok}
+use Rattle.definitions.specs.Encoding.{wordWith, statementWordWith, expressionWords, statementCount, statementWords}
+use Rattle.definitions.specs.Encoding.{statementsWords, blockWords, procedureWords}
+use Rattle.definitions.specs.Compiling.{one, followedBy, closed, blockTemporaries, compiledBlock, compiledTypes}
+use Rattle.definitions.specs.Compiling.{compiledBody, compiledProcedure}
+use Rattle.laws.specs.Parses.{ok, got-ok}
 use Rattle.tape.specs.Tape.{Tape, write, writes}
 use Rattle.tape.specs.Laws.{writes-on, writes-app, patched}
 use Rattle.contexts.specs.Context.{passedBlock}
@@ -22,9 +23,10 @@ use Rattle.copying.specs.Runs.{run-run}
 use Rattle.emission.specs.Callees.{calleesOf}
 use Rattle.emission.specs.Emitted.{Emission, outcome, emittedBlock}
 use Rattle.emission.specs.declared.Cursor.{Cursor}
-use Rattle.locals.specs.Typing.{Typing, typing, typedBlock}
+use Rattle.locals.specs.Typing.{Typing, typedBlock}
 use Rattle.locals.specs.declared.Typed.{Typed}
-use Rattle.procedures.specs.Procedures.{procedureFrom, Partial, part, typesOn, innerOn, bodyOn, partsOn, procedureOn}
+use Rattle.procedures.specs.Procedures.{procedureFrom, Partial, part, typesOn, innerOn, bodyOn, partsOn}
+use Rattle.procedures.specs.Procedures.{procedureOn}
 use Rattle.procedures.specs.declared.Part.{Part}
 
 -- ---- the closed body
@@ -32,12 +34,12 @@ use Rattle.procedures.specs.declared.Part.{Part}
 followed-count : (a b : Block) → statementCount (followedBy a b) ≡ statementCount a + statementCount b
 unfolding followedBy statementCount
 followed-count done b = omega arith
-followed-count (step p s a) b = ap (λ z. 1 + z) (followed-count a b) ∙ omega arith
+followed-count (sequence p s a) b = ap (λ z. 1 + z) (followed-count a b) ∙ omega arith
 
 followed-words : (a b : Block) → statementsWords (followedBy a b) ≡ statementsWords a ++ statementsWords b
 unfolding followedBy statementWords
 followed-words done b = refl
-followed-words (step p s a) b =
+followed-words (sequence p s a) b =
     ap (λ z. statementWords s ++ z) (followed-words a b) ∙ sym (append-assoc (statementWords s) (statementsWords a) (statementsWords b))
 
 closed-count : (d : Bool) (rv : ℕ) (b : Block) → pick d 1 0 + statementCount b + pick d 1 0 ≡ statementCount (closed d rv b)

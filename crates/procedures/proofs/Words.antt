@@ -1,14 +1,13 @@
 -- The rules of the words around a procedure's own statements. Assumes nothing.
-use Prim.Native.Nat.{ℕ, zero, suc, _+_, _*_, _-_, _≤_, _<_}
+use Prim.Native.Nat.{ℕ, suc, _+_, _-_, _≤_, _<_}
 use mathlib.Core.Bool.{Bool, true, false}
 use mathlib.Core.List.{List, [], _∷_, _++_}
-use mathlib.Core.Path.{_≡_, refl, sym, ap, _∙_}
+use mathlib.Core.Path.{_≡_, sym, ap, _∙_}
 use native.Mathlib.Omega.{arith}
 use native.Mathlib.Numerals.{add-one}
 use lib.ListN.{length, getD, take, drop, length-drop}
 use lib.Seq.{drop-cons, take-all}
 use Rattle.definitions.specs.Choice.{pick}
-use Rattle.definitions.specs.Encoding.{wordWith}
 use Rattle.tape.specs.Tape.{Tape, write, writes}
 use Rattle.tape.specs.Laws.{writes-nil, writes-on, writes-one}
 use Rattle.copying.specs.Runs.{run-run}

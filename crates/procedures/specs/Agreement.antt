@@ -1,13 +1,17 @@
 -- Compiling asks of the procedures of an image only their modes and the sorts of their results. Assumes nothing.
 use Prim.Native.Nat.{ℕ, _+_}
-use mathlib.Core.Bool.{Bool, true, false, _||_}
+use mathlib.Core.Bool.{Bool, false, _||_}
 use mathlib.Core.List.{List, [], _∷_, _++_}
-use mathlib.Core.Path.{_≡_, refl, sym, ap, _∙_}
+use mathlib.Core.Path.{_≡_, refl, ap, _∙_}
 use lib.ListN.{length}
 use Rattle.definitions.specs.Choice.{pick}
-use Rattle.definitions.specs.Image.{typeSort, Expression, Statement, assign, store, conditional, loop, return, call, Block, done, step, Procedure, guarded, procedureAt}
+use Rattle.definitions.specs.Image.{typeSort, Statement, assign, store, conditional, loop, return, call, Block, done}
+use Rattle.definitions.specs.Image.{sequence, Procedure, guarded, procedureAt}
 use Rattle.definitions.specs.Labels.{secretIn, rcAfter, rcAfterBlock}
-use Rattle.definitions.specs.Compiling.{secretOf, renamed, moved, movedAll, act, one, followedBy, Arm, ifTemporaries, temporaries, blockTemporaries, compiledIf, compiledCall, compiledStatement, compiledBlock, firstTemporary, returnVariable, firstMoved, defers, closed, compiledTypes, compiledBody, compiledProcedure}
+use Rattle.definitions.specs.Compiling.{secretOf, renamed, moved, movedAll, act, one, followedBy, ArmCode}
+use Rattle.definitions.specs.Compiling.{ifTemporaries, temporaries, blockTemporaries, compiledIf, compiledCall}
+use Rattle.definitions.specs.Compiling.{compiledStatement, compiledBlock, firstTemporary, returnVariable, firstMoved}
+use Rattle.definitions.specs.Compiling.{compiledTypes, compiledBody, compiledProcedure}
 
 module _ (ps qs : List Procedure) (arrays types : List ℕ)
     (modes : (f : ℕ) → guarded (procedureAt ps f) ≡ guarded (procedureAt qs f))
@@ -29,7 +33,7 @@ module _ (ps qs : List Procedure) (arrays types : List ℕ)
 
     pub block-temporaries-same : (b : Block) (pc rc : Bool) → blockTemporaries ps arrays types pc rc b ≡ blockTemporaries qs arrays types pc rc b
     block-temporaries-same done pc rc = refl
-    block-temporaries-same (step l s b) pc rc =
+    block-temporaries-same (sequence l s b) pc rc =
         ap (λ z. z ++ blockTemporaries ps arrays types pc (rcAfter types arrays pc rc s) b) (temporaries-same s pc rc)
         ∙ ap (λ z. temporaries qs arrays types pc rc s ++ z) (block-temporaries-same b pc (rcAfter types arrays pc rc s))
 
@@ -42,16 +46,16 @@ module _ (ps qs : List Procedure) (arrays types : List ℕ)
       statement-same (assign x e) pc arm rc k = refl
       statement-same (store a i e) pc arm rc k = refl
       statement-same (conditional c a b) pc arm rc k =
-          let A : _≡_ {A = Arm} (λ q v n. compiledBlock ps arrays types first rv a q v rc n) (λ q v n. compiledBlock qs arrays types first rv a q v rc n)
+          let A : _≡_ {A = ArmCode} (λ q v n. compiledBlock ps arrays types first rv a q v rc n) (λ q v n. compiledBlock qs arrays types first rv a q v rc n)
           = λ i. λ q v n. block-same a q v rc n i in
-          let B : _≡_ {A = Arm} (λ q v n. compiledBlock ps arrays types first rv b q v rc n) (λ q v n. compiledBlock qs arrays types first rv b q v rc n)
+          let B : _≡_ {A = ArmCode} (λ q v n. compiledBlock ps arrays types first rv b q v rc n) (λ q v n. compiledBlock qs arrays types first rv b q v rc n)
           = λ i. λ q v n. block-same b q v rc n i in
           ap (λ z. compiledIf (secretIn types arrays c) pc arm rc (rv + 1) k (moved first c) (length z)
           (λ q v n. compiledBlock ps arrays types first rv a q v rc n) (λ q v n. compiledBlock ps arrays types first rv b q v rc n))
           (block-temporaries-same a (pc || secretIn types arrays c) rc)
-          ∙ ap (λ (z : Arm). compiledIf (secretIn types arrays c) pc arm rc (rv + 1) k (moved first c)
+          ∙ ap (λ (z : ArmCode). compiledIf (secretIn types arrays c) pc arm rc (rv + 1) k (moved first c)
           (length (blockTemporaries qs arrays types (pc || secretIn types arrays c) rc a)) z (λ q v n. compiledBlock ps arrays types first rv b q v rc n)) A
-          ∙ ap (λ (z : Arm). compiledIf (secretIn types arrays c) pc arm rc (rv + 1) k (moved first c)
+          ∙ ap (λ (z : ArmCode). compiledIf (secretIn types arrays c) pc arm rc (rv + 1) k (moved first c)
           (length (blockTemporaries qs arrays types (pc || secretIn types arrays c) rc a)) (λ q v n. compiledBlock qs arrays types first rv a q v rc n) z) B
       statement-same (loop x f t b) pc arm rc k =
           ap (λ z. one (loop (renamed first x) (moved first f) (moved first t) z)) (block-same b pc arm (rcAfterBlock types arrays pc rc b) k)
@@ -62,7 +66,7 @@ module _ (ps qs : List Procedure) (arrays types : List ℕ)
       pub block-same : (b : Block) (pc : Bool) (arm : ℕ) (rc : Bool) (k : ℕ)
           → compiledBlock ps arrays types first rv b pc arm rc k ≡ compiledBlock qs arrays types first rv b pc arm rc k
       block-same done pc arm rc k = refl
-      block-same (step l s b) pc arm rc k =
+      block-same (sequence l s b) pc arm rc k =
           ap (λ z. followedBy z (compiledBlock ps arrays types first rv b pc arm (rcAfter types arrays pc rc s) (k + length (temporaries ps arrays types pc rc s))))
           (statement-same s pc arm rc k)
           ∙ ap (λ z. followedBy (compiledStatement qs arrays types first rv s pc arm rc k)

@@ -1,8 +1,7 @@
 -- What emitting a procedure leaves, by its word, its result's type word, the type words of its variables and its body as it was read.
 -- Assumes nothing.
-use Prim.Native.Nat.{ℕ, _+_}
-use mathlib.Core.Bool.{Bool, true, false}
-use mathlib.Core.List.{List, [], _∷_, _++_}
+use Prim.Native.Nat.{ℕ}
+use mathlib.Core.List.{List, _++_}
 use lib.ListN.{length}
 use Rattle.definitions.specs.Image.{modeOf, parametersOf, Block, Procedure}
 use Rattle.definitions.specs.Reading.{Parse, got, refused}

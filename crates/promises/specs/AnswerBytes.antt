@@ -1,11 +1,10 @@
 -- What a host reads in the slice that it lent for an answer: seven words, one layout for every function. Assumes nothing.
 use Prim.Native.Nat.{ℕ, _+_, _*_, _/_, _%_, _^_, _≤_}
-use mathlib.Core.Bool.{Bool, true}
 use mathlib.Core.List.{List, [], _∷_, _++_}
 use mathlib.Core.Path.{_≡_, refl, sym, ap, _∙_}
 use native.Mathlib.Omega.{arith}
 use borrow.Author.Tests.{le-leb}
-use lib.Dec.{eqb, leb}
+use lib.Dec.{eqb}
 use lib.ListN.{length, getD, drop}
 use Rattle.definitions.specs.Choice.{pick}
 use Rattle.definitions.specs.Bytes.{joined, wordsOf, bytesOf, lent}
@@ -15,7 +14,7 @@ use Rattle.definitions.specs.declared.Checked.{Checked}
 use Rattle.definitions.specs.declared.Checked.the-variants.{Accepted, Refused as CheckRefused}
 use Rattle.definitions.specs.declared.Compiled.{Compiled}
 use Rattle.definitions.specs.declared.Compiled.the-variants.{Written, Refused as CompileRefused}
-use Rattle.definitions.specs.Host.{layout, answerWords, checkedWords, compiledWords, answerBytes}
+use Rattle.definitions.specs.Host.{answerWords, checkedWords, compiledWords, answerBytes}
 
 -- ---- reading an answer
 

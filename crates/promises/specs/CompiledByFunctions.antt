@@ -1,20 +1,20 @@
 -- Property 2 for a host: what tinesage_compile wrote, driven through the C functions beside its source, as their contracts tell it. Assumes nothing.
 use Prim.Native.Nat.{ℕ, _*_, _≤_}
 use mathlib.Core.List.{List}
-use mathlib.Core.Path.{_≡_, refl, sym, ap, _∙_}
+use mathlib.Core.Path.{_≡_, sym, ap, _∙_}
 use lib.ListN.{length, take}
 use Rattle.definitions.specs.Bytes.{wordsOf}
 use Rattle.definitions.specs.declared.Answer.{Answer}
 use Rattle.definitions.specs.declared.Answer.the-variants.{Done}
 use Rattle.definitions.specs.declared.Checked.{Checked}
 use Rattle.definitions.specs.declared.Checked.the-variants.{Accepted}
-use Rattle.definitions.specs.Checking.{checked}
-use Rattle.definitions.specs.Requests.{ready, readyTree, readyToLoad, served, load}
-use Rattle.requests.specs.Ready.{ready-accepted, enough-cells}
+use Rattle.definitions.specs.Requests.{served, load}
 use Rattle.definitions.specs.declared.Compiled.the-variants.{Written}
 use Rattle.definitions.specs.Image.{Image, cellCount}
 use Rattle.definitions.specs.Reading.{got, readImage}
-use Rattle.definitions.specs.Host.{wholeWords, checkBytes, compileBytes, loadBytes, clearBytes, pokeBytes, peekBytes, callBytes, answerWords, checkedWords, compiledWords, answerBytes}
+use Rattle.definitions.specs.Host.{wholeWords, checkBytes, compileBytes, loadBytes, clearBytes, pokeBytes, peekBytes}
+use Rattle.definitions.specs.Host.{callBytes, answerWords, checkedWords, answerBytes}
+use Rattle.requests.specs.Ready.{ready-accepted, enough-cells}
 use Rattle.properties.specs.Compiled.{SameEnd, withGuard}
 use Rattle.properties.specs.CompiledBytes.{KeepsMeaningBytes, compiled-bytes-keep-meaning}
 use Rattle.tinesage.specs.Contracts.{Checks, Compiles, Loads, Clears, Pokes, Peeks, Calls}
@@ -60,11 +60,9 @@ pub record KeepsMeaningFunctions (image target-image : List ℕ) : Type 0 where
 -- an image that the checker accepts loads, where enough cells are lent
 loaded : (image cells : List ℕ) (tree : Image) (n : ℕ) → readImage (wholeWords image) (wordsOf image) ≡ got tree n → checkBytes image ≡ Accepted
     → cellCount (tree .arrays) ≤ length (wordsOf cells) → loadBytes image cells .0 ≡ Done 0 0 0
-unfolding loadBytes load served readyToLoad checkBytes checked
+unfolding loadBytes load served checkBytes
 loaded image cells tree n r e h =
-    let q : readyTree (readImage (wholeWords image) (wordsOf image)) (length (wordsOf cells)) ≡ ready tree =
-    ready-accepted (readImage (wholeWords image) (wordsOf image)) (length (wordsOf cells)) tree n r e ∙ enough-cells tree (length (wordsOf cells)) h in
-    rw q
+    rw (ready-accepted (wholeWords image) (wordsOf image) (length (wordsOf cells)) tree n r e, enough-cells tree (length (wordsOf cells)) h)
 
 -- two requests that are one by the definitions
 alike : (x y : Answer × List ℕ) (answer cells′ answer′ cells″ answer″ : List ℕ) → y ≡ x → (cells′ ≡ x .1) × (answer′ ≡ answerBytes answer (answerWords (x .0)))

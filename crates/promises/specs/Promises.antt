@@ -19,11 +19,11 @@ use Rattle.definitions.specs.Requests.{Called, load, clear, poke, peek, call}
 use Rattle.definitions.specs.Host.{compileBytes}
 use Rattle.secrecy.specs.Sessions.{Request, Response, empty, AlikeLists, SameTurns}
 use Rattle.secrecy.specs.Secrecy.{secrecy}
-use Rattle.properties.specs.Compiled.{Begun, done, stopped, budget-spent, trace-full, SameEnd, both-done, both-stopped, both-refused, source-out, compiled-out, compiled-keeps-meaning}
+use Rattle.properties.specs.Compiled.{Begun, done, stopped, budget-spent, trace-full, SameEnd, both-done, both-stopped}
+use Rattle.properties.specs.Compiled.{both-refused, source-out, compiled-out, compiled-keeps-meaning}
 use Rattle.properties.specs.CompiledBytes.{KeepsMeaningBytes, compiled-bytes-keep-meaning}
 use Rattle.tinesage.specs.Contracts.{Compiles}
-use Rattle.results.specs.Results.{Results, ResultsOnBytes, property-1-bytes as results-on-bytes}
-use Rattle.results.specs.Results.{property-1 as results}
+use Rattle.results.specs.Results.{Results, ResultsOnBytes, property-1-bytes as results-on-bytes, property-1 as results}
 use Rattle.promises.specs.AnswerBytes.{answerIn}
 use Rattle.promises.specs.ResultsOfFunctions.{ResultsOfFunctions, results-of-functions}
 use Rattle.promises.specs.CompiledByFunctions.{KeepsMeaningFunctions, functions-keep-meaning}

@@ -1,16 +1,15 @@
 -- Property 1 for a host: what each C function can answer, and what it leaves unchanged, as its contract tells it. Assumes nothing.
-use Prim.Native.Nat.{ℕ, _/_, _≤_}
+use Prim.Native.Nat.{ℕ, _≤_}
 use mathlib.Core.List.{List}
-use mathlib.Core.Path.{_≡_, refl, sym, ap, _∙_}
+use mathlib.Core.Path.{_≡_, ap, _∙_}
 use lib.ListN.{length}
 use Rattle.definitions.specs.Bytes.{wordsOf}
 use Rattle.definitions.specs.declared.Answer.{Answer}
-use Rattle.definitions.specs.declared.Checked.{Checked}
-use Rattle.definitions.specs.declared.Compiled.{Compiled}
-use Rattle.definitions.specs.Host.{checkBytes, compileBytes, checkedWords, compiledWords, loadBytes, clearBytes, pokeBytes, peekBytes, callBytes, answerWords, answerBytes}
+use Rattle.definitions.specs.Host.{checkBytes, compileBytes, loadBytes, clearBytes, pokeBytes, peekBytes, callBytes}
+use Rattle.definitions.specs.Host.{answerWords, answerBytes}
 use Rattle.words.proofs.Laws.{Bytes}
-use Rattle.results.specs.Answers.{LoadRefusal, RequestRefusal, Serves, CallsBytes}
-use Rattle.results.specs.Answers.{Checks as CheckResult, Compiles as CompileResult}
+use Rattle.results.specs.Answers.{LoadRefusal, RequestRefusal, Serves, CallsBytes, Checks as CheckResult}
+use Rattle.results.specs.Answers.{Compiles as CompileResult}
 use Rattle.results.specs.Results.{property-1-bytes}
 use Rattle.tinesage.specs.Contracts.{Checks, Compiles, Loads, Clears, Pokes, Peeks, Calls}
 use Rattle.promises.specs.AnswerBytes.{answerIn, checkedOf, compiledOf, read-as, check-read, compile-read}

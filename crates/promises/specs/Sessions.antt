@@ -2,12 +2,12 @@
 -- The host reads each answer in the slice that it lent for it. Assumes nothing.
 use Prim.Native.Nat.{ℕ, _≤_}
 use mathlib.Core.List.{List, [], _∷_}
-use mathlib.Core.Path.{_≡_, refl, sym, ap, _∙_}
+use mathlib.Core.Path.{_≡_, ap}
 use lib.ListN.{length}
 use Rattle.definitions.specs.Choice.{pick}
-use Rattle.definitions.specs.declared.Answer.{Answer}
-use Rattle.definitions.specs.Host.{loadBytes, clearBytes, pokeBytes, peekBytes, callBytes, answerWords, answerBytes}
-use Rattle.secrecy.specs.Sessions.{Machine, Request, load, poke, peek, clear, call, Response, accepted, turn, imageOf, secretResult, SameResponse, SameTurns, noTurn, oneTurn}
+use Rattle.definitions.specs.Host.{loadBytes, clearBytes, pokeBytes, peekBytes, callBytes}
+use Rattle.secrecy.specs.Sessions.{Machine, Request, load, poke, peek, clear, call, Response, accepted, turn, imageOf}
+use Rattle.secrecy.specs.Sessions.{secretResult, SameResponse, SameTurns, noTurn, oneTurn}
 use Rattle.tinesage.specs.Contracts.{Loads, Clears, Pokes, Peeks, Calls}
 use Rattle.promises.specs.AnswerBytes.{answerIn, read-as}
 

@@ -9,9 +9,15 @@ use native.Mathlib.Omega.{arith}
 use lib.ListN.{length}
 use borrow.Author.Tests.{le-leb, eq-eqb}
 use Rattle.definitions.specs.Image.{Expression, Statement, Block, Procedure, Image, procedureAt}
-use Rattle.readback.specs.Like.{LikeExpression, like-constant, like-boolean, like-variable, like-cell, like-unary, like-binary, like-select, LikeAll, like-none, like-more, LikeStatement, like-assign, like-store, like-conditional, like-loop, like-return, like-call, LikeBlock, like-done, like-step, LikeProcedure, LikeProcedures, like-empty, like-next, LikeImage}
-use Rattle.readback.specs.Fits.{FitsStatement, fit-assign, fit-store, fit-conditional, fit-loop, fit-return, fit-call, FitsBlock, fit-block, FitsStatements, fit-done, fit-step, FitsProcedure, FitsProcedures, no-procedures, more-procedures, arityOf, FitsImage}
-use Rattle.preservation.specs.Erasure.{erasedExpression, erasedExpressions, erasedStatement, erasedBlock, erasedProcedure, erasedProcedures, erasedImage}
+use Rattle.readback.specs.Like.{LikeExpression, like-constant, like-boolean, like-variable, like-cell, like-unary}
+use Rattle.readback.specs.Like.{like-binary, like-select, LikeAll, like-none, like-more, LikeStatement, like-assign}
+use Rattle.readback.specs.Like.{like-store, like-conditional, like-loop, like-return, like-call, LikeBlock, like-done}
+use Rattle.readback.specs.Like.{like-step, LikeProcedure, LikeProcedures, like-empty, like-next, LikeImage}
+use Rattle.laws.specs.Fits.{FitsStatement, fit-assign, fit-store, fit-conditional, fit-loop, fit-return, fit-call}
+use Rattle.laws.specs.Fits.{FitsBlock, fit-block, FitsStatements, fit-done, fit-sequence, FitsProcedure, FitsProcedures}
+use Rattle.laws.specs.Fits.{no-procedures, more-procedures, arityOf, FitsImage}
+use Rattle.preservation.specs.Erasure.{erasedExpression, erasedExpressions, erasedStatement, erasedBlock}
+use Rattle.preservation.specs.Erasure.{erasedProcedure, erasedProcedures, erasedImage}
 use Rattle.preservation.specs.WellRead.{countedStatement, countedBlock, wellReadProcedure, wellReadProcedures, wellRead}
 
 -- ---- Trees that are the same up to their places are the same without them
@@ -81,7 +87,7 @@ module _ (ps : List Procedure) (me : ℕ) where
 
     counted-statements : {l : ℕ} {b : Block} → FitsStatements (arityOf ps) me l b → countedBlock ps b ≡ true
     counted-statements fit-done = refl
-    counted-statements (fit-step s b) = rw (counted-statement s, counted-statements b)
+    counted-statements (fit-sequence s b) = rw (counted-statement s, counted-statements b)
 
 well-procedure : (ps : List Procedure) (me form : ℕ) → form ≡ 0 → (p : Procedure) → FitsProcedure form (arityOf ps) me p → wellReadProcedure ps p ≡ true
 unfolding wellReadProcedure

@@ -9,29 +9,31 @@ use mathlib.Core.Path.{_≡_, sym, ap, _∙_}
 use lib.Dec.{leb}
 use lib.ListN.{length, take, drop}
 use lib.Seq.{take-at}
-use borrow.Author.Tests.{eq-eqb}
 use Rattle.definitions.specs.Choice.{pick}
 use Rattle.definitions.specs.declared.Answer.the-variants.{Done, Stopped, Refused}
 use Rattle.definitions.specs.declared.Checked.the-variants.{Accepted}
 use Rattle.definitions.specs.declared.Compiled.the-variants.{Written}
 use Rattle.definitions.specs.Image.{Image, guarded, procedureAt, cellCount}
 use Rattle.definitions.specs.Reading.{got, readImage}
-use Rattle.definitions.specs.Checking.{faultOf, judged, checked}
+use Rattle.definitions.specs.Checking.{faultOf, verdict, checked}
 use Rattle.definitions.specs.Encoding.{imageWords}
 use Rattle.definitions.specs.Compiling.{compiledImage, fitLocals, compiled}
 use Rattle.definitions.specs.Requests.{ready, unready, Called, load, clear, poke, peek, calledOn, servedCall, call}
-use Rattle.readback.specs.Tests.{and-l}
-use Rattle.readback.specs.Faulty.{no-fault-of}
-use Rattle.readback.specs.WellRead.{read-whole}
+use Rattle.laws.specs.Tests.{and-left}
+use Rattle.laws.specs.Admitted.{admit}
+use Rattle.laws.specs.ReadImages.{open-image}
+use Rattle.laws.specs.Faultless.{no-fault-of}
 use Rattle.readback.specs.Conclusion.{ReadBack, read-back, compiled-accepted}
 use Rattle.readback.specs.Calls.{lentEnough, compiled-ready}
 use Rattle.readback.specs.Cells.{source-call, same-load, same-clear, same-poke, same-peek}
 use Rattle.readback.specs.Output.{Wrote, wrote}
 use Rattle.preservation.specs.Relations.{Spent, budgetSpent, traceFull}
 use Rattle.preservation.specs.Preservation.{Compilable}
-use Rattle.preservation.specs.Calls.{SameCall, bothDone, bothStopped, bothRefused, sourceSpent, compiledSpent, preserved-call}
+use Rattle.preservation.specs.Calls.{SameCall, bothDone, bothStopped, bothRefused, sourceSpent, compiledSpent}
+use Rattle.preservation.specs.Calls.{preserved-call}
 use Rattle.properties.specs.Bridge.{same-image, well-source}
-use Rattle.properties.specs.Stops.{StopNumber, number-21, number-22, number-23, number-24, Ends, stop-number, call-ends}
+use Rattle.properties.specs.Stops.{StopNumber, number-21, number-22, number-23, number-24, Ends, stop-number}
+use Rattle.properties.specs.Stops.{call-ends}
 use Rattle.properties.specs.Refusals.{refusal, same-refusal}
 
 -- ---- The statement
@@ -141,24 +143,20 @@ target-call :
 unfolding call
 target-call source r cells f arguments budget room = rw (compiled-ready source r (length cells))
 
-accepted-tree : (i : Image) (n : ℕ) → faultOf i .number ≡ 0 → judged (got i n) ≡ Accepted
-unfolding judged
-accepted-tree i n e = rw (eq-eqb (faultOf i .number) 0 e)
-
 module _ (whole : Bool) (words out : List ℕ) (n : ℕ) (w : Wrote whole words out n) where
   no-fault : faultOf (w .source) .number ≡ 0
   no-fault = no-fault-of (w .source) (w .sound .no-sort-fault) (w .sound .no-label-fault)
 
   checker-accepts : checked whole words ≡ Accepted
-  unfolding checked
-  checker-accepts = ap judged (w .reading) ∙ accepted-tree (w .source) (w .place) no-fault
+  unfolding checked verdict
+  checker-accepts = rw (admit whole words (w .source) (w .place) (w .reading) no-fault)
 
   compilable : Compilable (w .source)
   compilable =
       record {
         well = well-source (w .source) (w .sound .read) (w .sound .source-form);
         clean = no-fault;
-        fits = and-l (fitLocals (compiledImage (w .source) .procedures)) (leb (length (imageWords (compiledImage (w .source)))) 16384) (w .fitting);
+        fits = and-left (fitLocals (compiledImage (w .source) .procedures)) (leb (length (imageWords (compiledImage (w .source)))) 16384) (w .fitting);
       }
 
   same-calls :
@@ -181,7 +179,7 @@ module _ (whole : Bool) (words out : List ℕ) (n : ℕ) (w : Wrote whole words 
   keeps r =
       record {
         source = w .source;
-        source-read = w .reading ∙ ap (got (w .source)) (read-whole whole words (w .source) (w .place) (w .reading) .to-the-end);
+        source-read = w .reading ∙ ap (got (w .source)) (open-image whole words (w .source) (w .place) (w .reading) .ends);
         source-accepted = checker-accepts;
         source-form = w .sound .source-form;
         target = r .tree;

@@ -15,8 +15,11 @@ use Rattle.definitions.specs.Image.{Image}
 use Rattle.definitions.specs.Reading.{got, readImage}
 use Rattle.definitions.specs.Compiling.{compiled}
 use Rattle.definitions.specs.Requests.{Called}
-use Rattle.definitions.specs.Host.{wholeWords, checkBytes, compileBytes, loadBytes, clearBytes, pokeBytes, peekBytes, callBytes}
-use Rattle.properties.specs.Compiled.{Begun, done, stopped, SameEnd, both-done, both-stopped, both-refused, source-out, compiled-out, withGuard, KeepsMeaning, written-count, compiled-keeps-meaning}
+use Rattle.definitions.specs.Host.{wholeWords, checkBytes, compileBytes, loadBytes, clearBytes, pokeBytes, peekBytes}
+use Rattle.definitions.specs.Host.{callBytes}
+use Rattle.properties.specs.Compiled.{Begun, done, stopped, SameEnd, both-done, both-stopped, both-refused}
+use Rattle.properties.specs.Compiled.{source-out, compiled-out, withGuard, KeepsMeaning, written-count}
+use Rattle.properties.specs.Compiled.{compiled-keeps-meaning}
 
 -- ---- The statement
 

@@ -8,8 +8,13 @@ use lib.ListN.{length, getD, set}
 use Rattle.definitions.specs.Choice.{pick}
 use Rattle.definitions.specs.Operators.{applyBinary}
 use Rattle.definitions.specs.declared.Answer.the-variants.{Done, Stopped, Refused}
-use Rattle.definitions.specs.Image.{arrayLength, Expression, constant, boolean, variable, cell, unary, binary, select, Statement, assign, store, conditional, loop, return, call, Block, done, step, Procedure, Image, procedureAt}
-use Rattle.definitions.specs.Running.{Trace, traceWords, Evaluated, value, stop, Ran, on, halt, bind, within, andGo, emit, inArray, indexAt, divided, operated, evaluate, evaluateAll, Outcome, next, back, Given, gave, Callee, Body, tick, after, passes, taken, received, runStatement, runBlock, frame, finish, runProcedure}
+use Rattle.definitions.specs.Image.{arrayLength, Expression, constant, boolean, variable, cell, unary, binary, select}
+use Rattle.definitions.specs.Image.{Statement, assign, store, conditional, loop, return, call, Block, done, sequence}
+use Rattle.definitions.specs.Image.{Procedure, Image, procedureAt}
+use Rattle.definitions.specs.Running.{Trace, traceWords, Evaluated, value, stop, Ran, on, halt, bind, within, andGo}
+use Rattle.definitions.specs.Running.{emit, inArray, indexAt, divided, operated, evaluate, evaluateAll, Outcome, next}
+use Rattle.definitions.specs.Running.{back, Given, gave, Callee, Body, tick, after, passes, taken, received}
+use Rattle.definitions.specs.Running.{runStatement, runBlock, frame, finish, runProcedure}
 use Rattle.definitions.specs.Requests.{Called, argumentValues, ended, calledOn}
 
 pub data StopNumber : ℕ → Type 0 where
@@ -154,7 +159,7 @@ module _ {T : Type 0} (C : Trace T) (budget : ℕ) (arrays : List ℕ) (K : Call
 
     runs-block : (b : Block) → BodyRuns (runBlock C budget arrays K b)
     runs-block done z t vs cs = ran
-    runs-block (step l s b) z t vs cs = ticks budget l z t _ (λ y. then-goes (runs-statement l s y t vs cs) (goes-on (λ w v us ds. runs-block b w v us ds)))
+    runs-block (sequence l s b) z t vs cs = ticks budget l z t _ (λ y. then-goes (runs-statement l s y t vs cs) (goes-on (λ w v us ds. runs-block b w v us ds)))
 
 -- ---- Procedures and calls
 

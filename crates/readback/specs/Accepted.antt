@@ -6,14 +6,25 @@ use mathlib.Core.Path.{_≡_, refl, sym, _∙_}
 use lib.Dec.{ltb, leb, eqb}
 use lib.ListN.{length, getD, set}
 use borrow.Author.Tests.{lt-leb}
-use Rattle.definitions.specs.Operators.{operator, wordSort, booleanSort, unaryOperand, both, count}
-use Rattle.definitions.specs.Image.{arraySecret, typeSecret, typeSort, Expression, placeOf, Statement, Block, Procedure, procedureAt}
+use Rattle.definitions.specs.Operators.{operator, wordSort, booleanSort, unaryOperand, both, right}
+use Rattle.definitions.specs.Image.{arraySecret, typeSecret, typeSort, Expression, placeOf, Statement, Block, Procedure}
+use Rattle.definitions.specs.Image.{procedureAt}
 use Rattle.definitions.specs.Faults.{faultIf}
-use Rattle.definitions.specs.Sorts.{sortOf, sortIn, ordinary, outside, inside, sortFaults, operandFaults, argumentFaults, statementSortFaults, blockSortFaults, markStatement, markBlock}
-use Rattle.definitions.specs.Labels.{secretIn, labelFaults, argumentLabelFaults, loopBoundFaults, boundsInside, statementLabelFaults, blockLabelFaults, rcAfter, rcAfterBlock}
-use Rattle.readback.specs.Like.{LikeExpression, like-constant, like-boolean, like-variable, like-cell, like-unary, like-binary, like-select, LikeAll, like-none, like-more, LikeStatement, like-assign, like-store, like-conditional, like-loop, like-return, like-call, LikeBlock, like-done, like-step, LikeProcedure, LikeProcedures, like-empty, like-next}
-use Rattle.readback.specs.Clean.{nil-both, no-fault, right-sort}
-use Rattle.readback.specs.Good.{GoodExpression, good-constant, good-boolean, good-variable, good-cell, good-unary, good-binary, good-select, GoodArguments, good-none, good-more, GoodStatement, good-assign, good-store, good-conditional, good-loop, good-return, good-call, GoodBlock, good-done, good-step}
+use Rattle.definitions.specs.Sorts.{sortOf, sortIn, ordinary, outside, inside, sortFaults, operandFaults}
+use Rattle.definitions.specs.Sorts.{argumentFaults, statementSortFaults, blockSortFaults, markStatement, markBlock}
+use Rattle.definitions.specs.Labels.{secretIn, labelFaults, argumentLabelFaults, loopBoundFaults, boundsInside}
+use Rattle.definitions.specs.Labels.{statementLabelFaults, blockLabelFaults, rcAfter, rcAfterBlock}
+use Rattle.laws.specs.Tests.{nil-both, no-fault}
+use Rattle.readback.specs.Like.{LikeExpression, like-constant, like-boolean, like-variable, like-cell, like-unary}
+use Rattle.readback.specs.Like.{like-binary, like-select, LikeAll, like-none, like-more, LikeStatement}
+use Rattle.readback.specs.Like.{like-assign, like-store, like-conditional, like-loop, like-return, like-call}
+use Rattle.readback.specs.Like.{LikeBlock, like-done, like-step, LikeProcedure, LikeProcedures, like-empty}
+use Rattle.readback.specs.Like.{like-next}
+use Rattle.readback.specs.Clean.{right-sort}
+use Rattle.readback.specs.Good.{GoodExpression, good-constant, good-boolean, good-variable, good-cell, good-unary}
+use Rattle.readback.specs.Good.{good-binary, good-select, GoodArguments, good-none, good-more, GoodStatement}
+use Rattle.readback.specs.Good.{good-assign, good-store, good-conditional, good-loop, good-return, good-call}
+use Rattle.readback.specs.Good.{GoodBlock, good-done, good-step}
 
 -- sorts, labels and marks do not depend on places
 pub like-sort : (types : List ℕ) {e f : Expression} → LikeExpression e f → sortIn types f ≡ sortIn types e
@@ -82,7 +93,7 @@ module _ (types arrays marks : List ℕ) where
   good-labels bounds (good-binary {o = o} h g g′ s s′ l l′) (like-binary {g = f} {h = f′} k k′) =
       nil-both _ _ (good-labels bounds g k) (nil-both _ _ (good-labels bounds g′ k′)
       (nil-both _ _ (no-fault (eqb (operator o .publics) both && secretIn types arrays f) 10 (placeOf f) (rw (like-secret types arrays k) l))
-      (nil-both _ _ (no-fault (leb count (operator o .publics) && secretIn types arrays f′) 10 (placeOf f′) (rw (like-secret types arrays k′) l′)) refl)))
+      (nil-both _ _ (no-fault (leb right (operator o .publics) && secretIn types arrays f′) 10 (placeOf f′) (rw (like-secret types arrays k′) l′)) refl)))
   good-labels bounds (good-select g g′ g″ s s′) (like-select k k′ k″) =
       nil-both _ _ (good-labels bounds g k) (nil-both _ _ (good-labels bounds g′ k′) (good-labels bounds g″ k″))
 

@@ -1,7 +1,7 @@
 -- The reader reads the words that spell an image as that image, up to places. Assumes nothing.
 use Prim.Native.Nat.{ℕ, suc, _+_, _*_, _/_, _%_, _-_, _≤_, _<_}
 use mathlib.Core.Bool.{Bool, true, false}
-use mathlib.Core.List.{List, [], _∷_, _++_}
+use mathlib.Core.List.{List, [], _∷_, _++_, flatMap}
 use mathlib.Core.Path.{_≡_, refl, sym, _∙_}
 use native.Mathlib.Omega.{arith}
 use native.Mathlib.Nat.{zero-add}
@@ -9,13 +9,18 @@ use lib.Dec.{eqb, eqb·suc-zero}
 use lib.ListN.{length, getD, set, replicate, length-set, length-replicate}
 use borrow.Author.Tests.{lt-ltb, le-leb, eq-eqb}
 use Rattle.definitions.specs.Choice.{pick}
-use Rattle.definitions.specs.Image.{kindOf, payloadOf, headerWord, largestImage, largestLevel, arrayLength, arrayWord, modeOf, parametersOf, localsOf, procedureWord, typeWord, Procedure, Image}
-use Rattle.definitions.specs.Reading.{Parse, got, andThen, onWord, readBlock, readTypes, readProcedure, readProcedures, readArrays, readRest, readImage}
-use Rattle.definitions.specs.Encoding.{wordWith, statementCount, statementsWords, blockWords, procedureWords, proceduresWords, imageWords}
+use Rattle.definitions.specs.Image.{kindOf, payloadOf, headerWord, largestImage, largestLevel, arrayLength, arrayWord}
+use Rattle.definitions.specs.Image.{modeOf, parametersOf, localsOf, procedureWord, typeWord, Procedure, Image}
+use Rattle.definitions.specs.Reading.{Parse, got, andThen, onWord, readBlock, readTypes, readProcedure, readProcedures}
+use Rattle.definitions.specs.Reading.{readArrays, readRest, readImage}
+use Rattle.definitions.specs.Encoding.{wordWith, statementCount, statementsWords, blockWords, procedureWords}
+use Rattle.definitions.specs.Encoding.{proceduresWords, imageWords}
+use Rattle.laws.specs.Fits.{AllTypes, no-types, more-types, FitsArrays, no-arrays, more-arrays, FitsProcedure}
+use Rattle.laws.specs.Fits.{FitsProcedures, no-procedures, more-procedures, arityOf, Known, FitsImage}
+use Rattle.laws.specs.ReadImages.{known-next}
+use Rattle.laws.specs.Spelled.{On, on-first, on-nothing, on-split, on-whole}
 use Rattle.readback.specs.Like.{LikeBlock, LikeProcedure, LikeProcedures, like-empty, like-next, LikeImage}
-use Rattle.readback.specs.Fits.{AllTypes, no-types, more-types, FitsArrays, no-arrays, more-arrays, FitsProcedure, FitsProcedures, no-procedures, more-procedures, arityOf, Known, FitsImage}
-use Rattle.readback.specs.Read.{known-next}
-use Rattle.readback.specs.Parses.{Reads, reads, reads-then, reads-word, On, on-first, on-nothing, on-split, on-whole}
+use Rattle.readback.specs.Parses.{Reads, reads, reads-then, reads-word}
 use Rattle.readback.specs.BackBody.{back-block}
 
 pub back-types : {ts : List ℕ} → AllTypes ts → (image : List ℕ) (at next : ℕ) → On image at ts next → Reads (λ us. us ≡ ts) next (readTypes (length ts) image at)
@@ -130,7 +135,7 @@ pub back-procedures :
     (image : List ℕ) → length image < 268435456 → (form : ℕ) (arity : ℕ → ℕ) {me : ℕ} {ps : List Procedure} → FitsProcedures form arity me ps
     → (params : List ℕ) → Known params me arity → me + length ps ≤ length params
     → (at next : ℕ) → On image at (proceduresWords ps) next → Reads (LikeProcedures ps) next (readProcedures (length ps) form params me image at)
-unfolding readProcedures proceduresWords
+unfolding readProcedures proceduresWords flatMap
 back-procedures image small form arity no-procedures params known room at next o = reads (on-nothing o) like-empty
 back-procedures image small form arity (more-procedures {me} {p} {ps} e fit fits) params known room at next o =
     let (m, n₁, n₂) = on-split (procedureWords p) (proceduresWords ps) o in

@@ -1,20 +1,33 @@
 -- The reader reads the words of expressions, statements and blocks as those, up to places. Assumes nothing.
 use Prim.Native.Nat.{ℕ, suc, _+_, _*_, _≤_, _<_}
 use mathlib.Core.Bool.{Bool, true, false}
-use mathlib.Core.List.{List, [], _∷_, _++_}
+use mathlib.Core.List.{List, [], _∷_, _++_, flatMap}
 use mathlib.Core.Path.{_≡_, refl, sym, _∙_}
 use native.Mathlib.Omega.{arith}
 use lib.Dec.{ltb}
 use lib.ListN.{length, getD}
 use borrow.Author.Tests.{le-leb, ltb-true, ltb-false}
 use Rattle.definitions.specs.Choice.{pick}
-use Rattle.definitions.specs.Image.{payloadOf, blockWord, statementWord, expressionWord, rawWord, Expression, constant, boolean, variable, cell, unary, binary, select, Statement, assign, store, conditional, loop, return, call, Block}
-use Rattle.definitions.specs.Reading.{got, Reader, expressionAt, readExpression, readArguments, readStatements, statementAt, readStatement, readBlock}
-use Rattle.definitions.specs.Encoding.{wordWith, constantWords, statementWordWith, expressionWords, argumentWords, statementCount, statementWords, statementsWords}
-use Rattle.readback.specs.Like.{LikeExpression, like-constant, like-boolean, like-variable, like-cell, like-unary, like-binary, like-select, LikeAll, like-none, like-more, LikeStatement, like-assign, like-store, like-conditional, like-loop, like-return, like-call, LikeBlock, like-done, like-step}
-use Rattle.readback.specs.Fits.{FitsExpression, fit-constant, fit-boolean, fit-variable, fit-cell, fit-unary, fit-binary, fit-select, FitsAll, fit-none, fit-more, FitsStatement, fit-assign, fit-store, fit-conditional, fit-loop, fit-return, fit-call, FitsBlock, fit-block, FitsStatements, fit-done, fit-step, Known}
-use Rattle.readback.specs.Parses.{Reads, reads, reads-then, reads-word, On, on-first, on-nothing, on-split, on-length}
-use Rattle.readback.specs.Spelling.{kind-of, payload-of, op-of, target-of, called-of, result-of, boolean-word, unary-word, binary-word, constant-word, variable-word, cell-word, plain-word, conditional-word, loop-word, return-word, call-word, block-word, count-words}
+use Rattle.definitions.specs.Image.{payloadOf, blockWord, statementWord, expressionWord, rawWord, Expression, constant}
+use Rattle.definitions.specs.Image.{boolean, variable, cell, unary, binary, select, Statement, assign, store}
+use Rattle.definitions.specs.Image.{conditional, loop, return, call, Block}
+use Rattle.definitions.specs.Reading.{got, Reader, expressionAt, readExpression, readArguments, readStatements}
+use Rattle.definitions.specs.Reading.{statementAt, readStatement, readBlock}
+use Rattle.definitions.specs.Encoding.{wordWith, constantWords, statementWordWith, expressionWords, argumentWords}
+use Rattle.definitions.specs.Encoding.{statementCount, statementWords, statementsWords}
+use Rattle.laws.specs.Fits.{FitsExpression, fit-constant, fit-boolean, fit-variable, fit-cell, fit-unary, fit-binary}
+use Rattle.laws.specs.Fits.{fit-select, FitsAll, fit-none, fit-more, FitsStatement, fit-assign, fit-store}
+use Rattle.laws.specs.Fits.{fit-conditional, fit-loop, fit-return, fit-call, FitsBlock, fit-block, FitsStatements}
+use Rattle.laws.specs.Fits.{fit-done, fit-sequence, Known}
+use Rattle.laws.specs.Spelled.{On, on-first, on-nothing, on-split, on-length}
+use Rattle.readback.specs.Like.{LikeExpression, like-constant, like-boolean, like-variable, like-cell, like-unary}
+use Rattle.readback.specs.Like.{like-binary, like-select, LikeAll, like-none, like-more, LikeStatement}
+use Rattle.readback.specs.Like.{like-assign, like-store, like-conditional, like-loop, like-return, like-call}
+use Rattle.readback.specs.Like.{LikeBlock, like-done, like-step}
+use Rattle.readback.specs.Parses.{Reads, reads, reads-then, reads-word}
+use Rattle.readback.specs.Spelling.{kind-of, payload-of, op-of, target-of, called-of, result-of, boolean-word}
+use Rattle.readback.specs.Spelling.{unary-word, binary-word, constant-word, variable-word, cell-word, plain-word}
+use Rattle.readback.specs.Spelling.{conditional-word, loop-word, return-word, call-word, block-word, count-words}
 
 -- Each kind of expression, where its operands are read back.
 module _ (operand : Reader Expression) (image : List ℕ) (at v : ℕ) where
@@ -111,7 +124,7 @@ back-expression (fit-select {l} {c = c} {e} {f} h i j) image at next o =
 pub back-arguments :
     {l : ℕ} {es : List Expression} → FitsAll l es → (image : List ℕ) (at next : ℕ) → On image at (argumentWords es) next
     → Reads (LikeAll es) next (readArguments (length es) (λ a. readExpression l image a) at)
-unfolding readArguments argumentWords
+unfolding readArguments argumentWords flatMap
 back-arguments fit-none image at next o = reads (on-nothing o) like-none
 back-arguments (fit-more {e} {es} f fs) image at next o =
     let (m, a, b) = on-split (expressionWords e) (argumentWords es) o in
@@ -222,7 +235,7 @@ module _ (image : List ℕ) (small : length image < 268435456) (params : List �
         {l : ℕ} {b : Block} → FitsStatements arity me l b → (at next : ℕ) → On image at (statementsWords b) next
         → Reads (LikeBlock b) next (readStatements (statementCount b) (λ a. readStatement l params me image a) at)
     back-statements fit-done at next o = reads (on-nothing o) like-done
-    back-statements (fit-step {l} {s = s} {b} f g) at next o =
+    back-statements (fit-sequence {l} {s = s} {b} f g) at next o =
         let (m, n₁, n₂) = on-split (statementWords s) (statementsWords b) o in
         let r = back-statement f at m n₁ in
         let t = back-statements g m next n₂ in

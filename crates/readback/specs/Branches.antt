@@ -8,18 +8,22 @@ use lib.Dec.{ltb, leb, eqb}
 use lib.ListN.{length, getD, set}
 use borrow.Author.Tests.{leb-false}
 use Rattle.definitions.specs.Operators.{wordSort, booleanSort}
-use Rattle.definitions.specs.Image.{typeSecret, typeSort, Expression, variable, unary, placeOf, conditional, loop, Block}
+use Rattle.definitions.specs.Image.{typeSecret, typeSort, Expression, variable, unary, placeOf, conditional, loop}
+use Rattle.definitions.specs.Image.{Block}
 use Rattle.definitions.specs.Faults.{faultIf}
 use Rattle.definitions.specs.Sorts.{sortIn, inside, operandFaults, loopFault, statementSortFaults, blockSortFaults}
-use Rattle.definitions.specs.Labels.{secretIn, isConstant, labelFaults, secretFault, loopBoundFaults, boundsInside, statementLabelFaults, blockLabelFaults, rcAfter, rcAfterBlock}
-use Rattle.definitions.specs.Compiling.{secretBoolean, renamed, moved, act, ifTemporaries, temporaries, blockTemporaries, compiledIf, compiledStatement, compiledBlock}
-use Rattle.readback.specs.Tests.{impossible, or-left, or-right, or-one, or-two}
-use Rattle.readback.specs.Parses.{On, on-first, on-split, on-end}
-use Rattle.readback.specs.Fits.{FitsExpression}
-use Rattle.readback.specs.Clean.{nil-left, nil-right, fault-none}
+use Rattle.definitions.specs.Labels.{secretIn, isConstant, labelFaults, secretFault, loopBoundFaults, boundsInside}
+use Rattle.definitions.specs.Labels.{statementLabelFaults, blockLabelFaults, rcAfter, rcAfterBlock}
+use Rattle.definitions.specs.Compiling.{secretBoolean, renamed, moved, act, ifTemporaries, temporaries}
+use Rattle.definitions.specs.Compiling.{blockTemporaries, compiledIf, compiledStatement, compiledBlock}
+use Rattle.laws.specs.Tests.{false-true, or-fails-left, or-fails-right, or-left, or-right, nil-left, nil-right, kept}
+use Rattle.laws.specs.Spelled.{On, on-first, on-split, on-end}
+use Rattle.laws.specs.Fits.{FitsExpression}
 use Rattle.readback.specs.Good.{GoodExpression, good-unary, good-conditional, good-loop, good-done, good-step}
 use Rattle.readback.specs.Renaming.{Marked, marked-set}
-use Rattle.readback.specs.Setting.{rc-block-stays, Setting, inside-room, beyond, sort-moved, secret-moved, good-moved, Slot, Deferred, Good′, slot-sort, followed, slot-good, slot-assign, act-good, under-good, operand-good, StatementGood, BlockGood, keeps}
+use Rattle.readback.specs.Setting.{rc-block-stays, Setting, inside-room, beyond, sort-moved, secret-moved}
+use Rattle.readback.specs.Setting.{good-moved, Slot, Deferred, Good′, slot-sort, followed, slot-good, slot-assign}
+use Rattle.readback.specs.Setting.{act-good, under-good, operand-good, StatementGood, BlockGood, keeps}
 
 module _ (here : Setting) where
   open Setting here using (form, ps, arrays, types, types′, parameters, parameters′, result, first, rv, typed, few, local)
@@ -33,7 +37,7 @@ module _ (here : Setting) where
       let z = operand-good here marks marks′ m fit bounds context wordSort refl s (nil-left (labelFaults types arrays bounds context e) _ l) in (
         z .0,
         z .1,
-        fault-none (secretIn types arrays e) 10 (placeOf e)
+        kept (secretIn types arrays e) 10 (placeOf e)
             (nil-left (secretFault types arrays e) _ (nil-right (labelFaults types arrays bounds context e)
             (secretFault types arrays e ++ faultIf (context && not (isConstant e)) 11 (placeOf e)) l)),
       )
@@ -44,8 +48,8 @@ module _ (here : Setting) where
   live-inside b pc rc d = go (rcAfterBlock types arrays pc rc b) refl
     where
       again : (rc′ : Bool) → rcAfterBlock types arrays pc rc′ b ≡ false → rcAfterBlock types arrays pc false b ≡ true → ⊥
-      again true e h = impossible (sym e ∙ rc-block-stays types arrays b pc)
-      again false e h = impossible (sym e ∙ h)
+      again true e h = false-true (sym e ∙ rc-block-stays types arrays b pc)
+      again false e h = false-true (sym e ∙ h)
 
       go : (r : Bool) → rcAfterBlock types arrays pc rc b ≡ r → rcAfterBlock types arrays pc r b ≡ true → Deferred here
       go true e h = d e
@@ -68,8 +72,8 @@ module _ (here : Setting) where
       let l₁ = nil-right lf (lt ++ lb) l in
       let z = bound-good fit marks marks′ bounds (pc || rc) m (nil-left ff (ft ++ fb) s₂) (nil-left lf (lt ++ lb) l) in
       let w = bound-good fit′ marks marks′ bounds (pc || rc) m (nil-left ft fb s₃) (nil-left lt lb l₁) in
-      let h = leb-false (length types) x (fault-none (leb (length types) x) 6 p (nil-left f₆ (f₈ ++ (ff ++ (ft ++ fb))) s)) in
-      let rule = fault-none (ltb x parameters || (typeSecret (getD types x 0) || (eqb (typeSort (getD types x 0)) booleanSort || eqb (getD marks x 0) inside))) 8 p
+      let h = leb-false (length types) x (kept (leb (length types) x) 6 p (nil-left f₆ (f₈ ++ (ff ++ (ft ++ fb))) s)) in
+      let rule = kept (ltb x parameters || (typeSecret (getD types x 0) || (eqb (typeSort (getD types x 0)) booleanSort || eqb (getD marks x 0) inside))) 8 p
       (nil-left f₈ (ff ++ (ft ++ fb)) s₁) in
       good-step (good-loop (inside-room here x h) (renamed-rule h rule) (good-moved here m (z .0)) (good-moved here m (w .0)) (sort-moved here (z .0) ∙ z .1) (sort-moved here (w .0) ∙ w .1)
       (secret-moved here (z .0) ∙ z .2) (secret-moved here (w .0) ∙ w .2)
@@ -81,7 +85,7 @@ module _ (here : Setting) where
           → (ltb (renamed first x) parameters′ || (typeSecret (getD types′ (renamed first x) 0) || (eqb (typeSort (getD types′ (renamed first x) 0)) booleanSort || eqb (getD marks′ (renamed first x) 0) inside))) ≡ false
       renamed-rule h r =
           let rest = typeSecret (getD types x 0) || (eqb (typeSort (getD types x 0)) booleanSort || eqb (getD marks x 0) inside) in
-          rw (local x h (or-left (ltb x parameters) rest r), typed x h, m .old x h) (or-right (ltb x parameters) rest r)
+          rw (local x h (or-fails-left (ltb x parameters) rest r), typed x h, m .old x h) (or-fails-right (ltb x parameters) rest r)
 
   -- the arms of an if, compiled for any arm variable and temporaries that are there
   abbrev Ready : Block → Bool → Bool → List ℕ → Type 0
@@ -167,7 +171,7 @@ module _ (here : Setting) where
       let rx = rcAfterBlock types arrays (pc || secretIn types arrays c) rc x in
       let ry = rcAfterBlock types arrays (pc || secretIn types arrays c) rc y in
       either-if pc (secretIn types arrays c) arm rc k end c x y marks marks′ m a (keeps here (conditional c x y) pc rc d) le on (z .0) (z .1) refl
-      (λ arm′ k′ end′ a′ le′ on′. ix (pc || secretIn types arrays c) arm′ rc k′ end′ marks marks′ bounds m a′ (λ e. d (or-one rx ry e)) le′ on′ (nil-left fx fy s₁)
+      (λ arm′ k′ end′ a′ le′ on′. ix (pc || secretIn types arrays c) arm′ rc k′ end′ marks marks′ bounds m a′ (λ e. d (or-left rx ry e)) le′ on′ (nil-left fx fy s₁)
       (nil-left lx ly l₂))
-      (λ arm′ k′ end′ a′ le′ on′. iy (pc || secretIn types arrays c) arm′ rc k′ end′ marks marks′ bounds m a′ (λ e. d (or-two rx ry e)) le′ on′ (nil-right fx fy s₁)
+      (λ arm′ k′ end′ a′ le′ on′. iy (pc || secretIn types arrays c) arm′ rc k′ end′ marks marks′ bounds m a′ (λ e. d (or-right rx ry e)) le′ on′ (nil-right fx fy s₁)
       (nil-right lx ly l₂))

@@ -11,11 +11,12 @@ use Rattle.definitions.specs.Choice.{pick}
 use Rattle.definitions.specs.declared.Answer.the-variants.{Done, Stopped, Refused}
 use Rattle.definitions.specs.Image.{Procedure, Image, procedureAt, cellCount}
 use Rattle.definitions.specs.Reading.{got}
-use Rattle.definitions.specs.Checking.{faultOf}
+use Rattle.definitions.specs.Checking.{faultOf, withoutFault, admitted}
 use Rattle.definitions.specs.Encoding.{proceduresWords, imageWords}
 use Rattle.definitions.specs.Compiling.{compiledImage, fits}
 use Rattle.definitions.specs.Running.{traceWords, Ran, Given, gave, runProcedure}
-use Rattle.definitions.specs.Requests.{Ready, ready, unready, readyTree, readyToLoad, readyToServe, Called, argumentValues, ended, calledOn, servedCall, call}
+use Rattle.definitions.specs.Requests.{Ready, ready, unready, withCells, readyToLoad, readyToServe, Called}
+use Rattle.definitions.specs.Requests.{argumentValues, ended, calledOn, servedCall, call}
 use Rattle.readback.specs.Like.{LikeImage, like-procedure-count}
 use Rattle.readback.specs.Accepted.{like-at}
 use Rattle.readback.specs.Parallel.{Parallel, both-on, both-halt, parallel-procedure}
@@ -75,13 +76,13 @@ parallel-called i j l cells f arguments budget room =
 unfoldable pub lentEnough : Image → ℕ → Ready
 lentEnough image count = pick (leb (cellCount (image .arrays)) count) (ready image) (unready 17 0)
 
-pub ready-tree : (image : Image) (n count : ℕ) → faultOf image .number ≡ 0 → readyTree (got image n) count ≡ lentEnough image count
-unfolding readyTree lentEnough
+pub ready-tree : (image : Image) (n count : ℕ) → faultOf image .number ≡ 0 → withCells (withoutFault (got image n)) count ≡ lentEnough image count
+unfolding withCells withoutFault lentEnough
 ready-tree image n count h = rw (eq-eqb (faultOf image .number) 0 h)
 
 -- The compiled words are ready as the tree that is read from them.
 pub compiled-loads : (image : Image) (r : ReadBack image) (count : ℕ) → readyToLoad true (imageWords (compiledImage image)) count ≡ lentEnough (r .tree) count
-unfolding readyToLoad
+unfolding readyToLoad admitted
 compiled-loads image r count = rw (r .reading) (ready-tree (r .tree) (length (imageWords (compiledImage image))) count (r .faultless))
 
 pub compiled-ready : (image : Image) (r : ReadBack image) (count : ℕ) → readyToServe true (imageWords (compiledImage image)) count ≡ lentEnough (r .tree) count

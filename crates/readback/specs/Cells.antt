@@ -9,10 +9,11 @@ use Rattle.definitions.specs.Choice.{pick}
 use Rattle.definitions.specs.declared.Answer.the-variants.{Refused}
 use Rattle.definitions.specs.Image.{Image, cellCount, arrayLength, baseOf, headerWord, formOf, largestImage}
 use Rattle.definitions.specs.Reading.{got, refused, readRest, readImage}
-use Rattle.definitions.specs.Checking.{faultOf}
+use Rattle.definitions.specs.Checking.{faultOf, admitted}
 use Rattle.definitions.specs.Encoding.{imageWords}
 use Rattle.definitions.specs.Compiling.{compiledImage}
-use Rattle.definitions.specs.Requests.{ready, unready, readyToLoad, readyToServe, Served, served, carriedOut, load, clear, poke, peek, calledOn, servedCall, call}
+use Rattle.definitions.specs.Requests.{ready, unready, readyToLoad, readyToServe, Served, served, carriedOut, load}
+use Rattle.definitions.specs.Requests.{clear, poke, peek, calledOn, servedCall, call}
 use Rattle.readback.specs.Calls.{lentEnough, ready-tree, compiled-loads, compiled-ready}
 use Rattle.readback.specs.Conclusion.{ReadBack}
 
@@ -36,7 +37,7 @@ and-none false b e = refl
 module _ (whole : Bool) (words : List ℕ) (image : Image) (n : ℕ) (reading : readImage whole words ≡ got image n) (faultless : faultOf image .number ≡ 0) where
   -- the source's words are ready as its tree
   pub source-loads : (count : ℕ) → readyToLoad whole words count ≡ lentEnough image count
-  unfolding readyToLoad
+  unfolding readyToLoad admitted
   source-loads count = rw reading (ready-tree image n count faultless)
 
   pub source-ready : (count : ℕ) → readyToServe whole words count ≡ lentEnough image count

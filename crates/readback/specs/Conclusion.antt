@@ -2,7 +2,7 @@
 -- Assumes nothing.
 use Prim.Native.Nat.{ℕ, _≤_}
 use mathlib.Core.Bool.{Bool, true, false}
-use mathlib.Core.List.{List, []}
+use mathlib.Core.List.{List, [], flatMap}
 use mathlib.Core.Path.{_≡_, refl, ap, sym, _∙_}
 use lib.Dec.{leb, eqb}
 use lib.ListN.{length, replicate}
@@ -11,28 +11,30 @@ use Rattle.definitions.specs.Choice.{pick}
 use Rattle.definitions.specs.declared.Checked.the-variants.{Accepted}
 use Rattle.definitions.specs.Image.{Block, Procedure, Image, guarded}
 use Rattle.definitions.specs.Reading.{Parse, got, readImage}
-use Rattle.definitions.specs.Sorts.{ordinary, markBlock, blockSortFaults, procedureSortFaults, proceduresSortFaults, imageSortFaults}
-use Rattle.definitions.specs.Labels.{unbounded, blockLabelFaults, procedureLabelFaults, proceduresLabelFaults, imageLabelFaults}
-use Rattle.definitions.specs.Checking.{faultOf, judged, checked}
+use Rattle.definitions.specs.Sorts.{ordinary, markBlock, blockSortFaults, procedureSortFaults, proceduresSortFaults}
+use Rattle.definitions.specs.Sorts.{imageSortFaults}
+use Rattle.definitions.specs.Labels.{unbounded, blockLabelFaults, procedureLabelFaults, proceduresLabelFaults}
+use Rattle.definitions.specs.Labels.{imageLabelFaults}
+use Rattle.definitions.specs.Checking.{faultOf, withoutFault, verdict, checked, admitted}
 use Rattle.definitions.specs.Encoding.{imageWords}
 use Rattle.definitions.specs.Compiling.{compiledImage, fitLocals, fits}
+use Rattle.definitions.specs.Running.{traceWords, runProcedure}
+use Rattle.laws.specs.Tests.{and-left, and-right, nil-both}
+use Rattle.laws.specs.Faultless.{faultless, no-fault-of}
+use Rattle.laws.specs.ReadImages.{open-image}
 use Rattle.readback.specs.Like.{LikeBlock, LikeProcedure, LikeProcedures, like-empty, like-next, LikeImage}
-use Rattle.readback.specs.Tests.{and-l, and-r}
 use Rattle.readback.specs.Parses.{Reads, reads, reads-map}
-use Rattle.readback.specs.Read.{read-fits}
 use Rattle.readback.specs.Back.{back-image}
-use Rattle.readback.specs.Clean.{nil-both}
 use Rattle.readback.specs.Good.{GoodBlock}
 use Rattle.readback.specs.Accepted.{like-marks, good-block-sorts, good-block-labels}
-use Rattle.readback.specs.Faulty.{faultless, no-fault-of}
 use Rattle.readback.specs.Parallel.{Parallel, parallel-procedure}
-use Rattle.definitions.specs.Running.{traceWords, runProcedure}
-use Rattle.readback.specs.Whole.{GoodProcedure, GoodProcedures, good-empty, good-next, Sound, image-good, image-compiled-fits}
+use Rattle.readback.specs.Whole.{GoodProcedure, GoodProcedures, good-empty, good-next, Sound, image-good}
+use Rattle.readback.specs.Whole.{image-compiled-fits}
 
 -- A source that was read and has no fault is sound.
 pub accepted-source : (whole : Bool) (words : List ℕ) (image : Image) (n : ℕ) → readImage whole words ≡ got image n → image .form ≡ 0 → faultOf image .number ≡ 0 → Sound image
 accepted-source whole words image n e f h =
-    let z = faultless image h in record { read = read-fits whole words image n e; source-form = f; no-sort-fault = z .0; no-label-fault = z .1 }
+    let z = faultless image h in record { read = open-image whole words image n e .fits; source-form = f; no-sort-fault = z .0; no-label-fault = z .1 }
 
 -- A procedure that is like a good one has no fault.
 module _ (ps qs : List Procedure) (same : LikeProcedures ps qs) (arrays : List ℕ) where
@@ -59,7 +61,7 @@ module _ (ps qs : List Procedure) (same : LikeProcedures ps qs) (arrays : List �
       go types e result e′ mode e″ = rw (sym e, sym e′, e″) (good-block-labels ps qs same me (p .parameters) (p .types) (p .result) arrays g (l .bodies) (replicate 256 unbounded))
 
   like-procedures-sorts : {me : ℕ} {rest rest′ : List Procedure} → GoodProcedures ps arrays me rest → LikeProcedures rest rest′ → proceduresSortFaults qs (length arrays) rest′ ≡ []
-  unfolding proceduresSortFaults
+  unfolding proceduresSortFaults flatMap
   like-procedures-sorts good-empty like-empty = refl
   like-procedures-sorts (good-next {me} {p} m g gs) (like-next {q = q} l ls) =
       nil-both (procedureSortFaults qs (length arrays) q) _ (like-procedure-sorts me p q g l) (like-procedures-sorts gs ls)
@@ -67,7 +69,7 @@ module _ (ps qs : List Procedure) (same : LikeProcedures ps qs) (arrays : List �
   like-procedures-labels :
       (image : Image) → image .form ≡ 1 → image .procedures ≡ qs → image .arrays ≡ arrays → {me : ℕ} {rest rest′ : List Procedure} → GoodProcedures ps arrays me rest → LikeProcedures rest rest′
       → proceduresLabelFaults image rest′ ≡ []
-  unfolding proceduresLabelFaults procedureLabelFaults
+  unfolding proceduresLabelFaults flatMap procedureLabelFaults
   like-procedures-labels image f e a good-empty like-empty = refl
   like-procedures-labels image f e a (good-next {me} {p} m g gs) (like-next {q = q} l ls) =
       nil-both (procedureLabelFaults image q) _ (go (image .form) f (image .procedures) e (image .arrays) a) (like-procedures-labels image f e a gs ls)
@@ -98,22 +100,22 @@ pub compiled-reads :
     → Reads (LikeImage (compiledImage image)) (length (imageWords (compiledImage image))) (readImage true (imageWords (compiledImage image)))
 compiled-reads image s h =
     back-image (compiledImage image)
-    (image-compiled-fits image s (and-l (fitLocals (compiledImage image .procedures)) (leb (length (imageWords (compiledImage image))) 16384) h))
+    (image-compiled-fits image s (and-left (fitLocals (compiledImage image .procedures)) (leb (length (imageWords (compiledImage image))) 16384) h))
     (few (compiledImage image .form) (length (imageWords (compiledImage image))) (compiled-form image)
-    (leb-true (length (imageWords (compiledImage image))) 16384 (and-r (fitLocals (compiledImage image .procedures))
+    (leb-true (length (imageWords (compiledImage image))) 16384 (and-right (fitLocals (compiledImage image .procedures))
     (leb (length (imageWords (compiledImage image))) 16384) h)))
   where
     few : (form n : ℕ) → form ≡ 1 → n ≤ 16384 → n ≤ pick (eqb form 0) 4096 16384
     few form n e k = rw e k
 
-judged-accepted : {n : ℕ} {x : Parse Image} → Reads (λ j. faultOf j .number ≡ 0) n x → judged x ≡ Accepted
-unfolding judged
-judged-accepted (reads {a = j} e h) = rw (eq-eqb (faultOf j .number) 0 h)
+read-accepted : {n : ℕ} {x : Parse Image} → Reads (λ j. faultOf j .number ≡ 0) n x → verdict (withoutFault x) ≡ Accepted
+unfolding verdict withoutFault
+read-accepted (reads {a = j} e h) = rw (eq-eqb (faultOf j .number) 0 h)
 
 -- The checker accepts them.
 pub compiled-accepted : (image : Image) → Sound image → fits (compiledImage image) ≡ true → checked true (imageWords (compiledImage image)) ≡ Accepted
-unfolding checked
-compiled-accepted image s h = judged-accepted (reads-map (compiled-reads image s h) (λ j l. like-compiled-faultless image s j l))
+unfolding checked admitted
+compiled-accepted image s h = read-accepted (reads-map (compiled-reads image s h) (λ j l. like-compiled-faultless image s j l))
 
 -- What the compiled words are read as: the tree and what holds of it.
 pub record ReadBack (image : Image) : Type 0 where

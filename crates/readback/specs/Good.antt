@@ -6,8 +6,10 @@ use mathlib.Core.List.{List, [], _∷_}
 use mathlib.Core.Path.{_≡_}
 use lib.Dec.{ltb, leb, eqb}
 use lib.ListN.{length, getD, set}
-use Rattle.definitions.specs.Operators.{operator, wordSort, booleanSort, unaryOperand, both, count}
-use Rattle.definitions.specs.Image.{arraySecret, typeSecret, typeSort, Expression, constant, boolean, variable, cell, unary, binary, select, Statement, assign, store, conditional, loop, return, call, Block, done, step, Procedure, procedureAt}
+use Rattle.definitions.specs.Operators.{operator, wordSort, booleanSort, unaryOperand, both, right}
+use Rattle.definitions.specs.Image.{arraySecret, typeSecret, typeSort, Expression, constant, boolean, variable, cell}
+use Rattle.definitions.specs.Image.{unary, binary, select, Statement, assign, store, conditional, loop, return, call}
+use Rattle.definitions.specs.Image.{Block, done, sequence, Procedure, procedureAt}
 use Rattle.definitions.specs.Sorts.{sortOf, sortIn, ordinary, outside, inside}
 use Rattle.definitions.specs.Labels.{secretIn}
 
@@ -23,7 +25,7 @@ pub data GoodExpression (types arrays marks : List ℕ) : Expression → Type 0 
   good-binary :
       {p o : ℕ} {e f : Expression} → o < 15 → GoodExpression types arrays marks e → GoodExpression types arrays marks f
       → sortIn types e ≡ operator o .operands → sortIn types f ≡ operator o .operands
-      → (eqb (operator o .publics) both && secretIn types arrays e) ≡ false → (leb count (operator o .publics) && secretIn types arrays f) ≡ false
+      → (eqb (operator o .publics) both && secretIn types arrays e) ≡ false → (leb right (operator o .publics) && secretIn types arrays f) ≡ false
       → GoodExpression types arrays marks (binary p o e f)
   good-select :
       {p : ℕ} {c e f : Expression} → GoodExpression types arrays marks c → GoodExpression types arrays marks e → GoodExpression types arrays marks f
@@ -71,4 +73,4 @@ mutual
     good-done : {marks : List ℕ} → GoodBlock ps me parameters types result arrays marks done
     good-step :
         {marks : List ℕ} {p : ℕ} {s : Statement} {b : Block} → GoodStatement ps me parameters types result arrays marks s
-        → GoodBlock ps me parameters types result arrays marks b → GoodBlock ps me parameters types result arrays marks (step p s b)
+        → GoodBlock ps me parameters types result arrays marks b → GoodBlock ps me parameters types result arrays marks (sequence p s b)

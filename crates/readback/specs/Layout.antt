@@ -10,12 +10,15 @@ use lib.ListN.{length, getD, take, drop, length-append, take-append-drop, length
 use lib.Seq.{length-take-le, getD-take, getD-drop, getD-append-add, getD-at}
 use borrow.Author.Tests.{lt-ltb, le-ltb, ltb-true, ltb-false}
 use Rattle.definitions.specs.Choice.{pick}
-use Rattle.definitions.specs.Image.{typeSecret, typeSort, typeWord, Procedure, guarded, procedureAt, Statement, assign, store, conditional, loop, return, call, Block, done, step}
+use Rattle.definitions.specs.Image.{typeSecret, typeSort, typeWord, Procedure, guarded, procedureAt, Statement, assign}
+use Rattle.definitions.specs.Image.{store, conditional, loop, return, call, Block, done, sequence}
 use Rattle.definitions.specs.Sorts.{sortOf}
 use Rattle.definitions.specs.Labels.{secretIn, rcAfter, rcAfterBlock}
-use Rattle.definitions.specs.Compiling.{secretBoolean, secretOf, renamed, callTemporary, ifTemporaries, temporaries, blockTemporaries, defers, guards, returnVariable, firstMoved, compiledTypes, compiledProcedure, compiledProcedures}
-use Rattle.readback.specs.Parses.{On, on-whole}
-use Rattle.readback.specs.Fits.{AllTypes, no-types, more-types}
+use Rattle.definitions.specs.Compiling.{secretBoolean, secretOf, renamed, callTemporary, ifTemporaries, temporaries}
+use Rattle.definitions.specs.Compiling.{blockTemporaries, defers, guards, returnVariable, firstMoved, compiledTypes}
+use Rattle.definitions.specs.Compiling.{compiledProcedure, compiledProcedures}
+use Rattle.laws.specs.Spelled.{On, on-whole}
+use Rattle.laws.specs.Fits.{AllTypes, no-types, more-types}
 use Rattle.readback.specs.Renaming.{Fresh, renamed-le}
 use Rattle.readback.specs.Setting.{Callee}
 
@@ -196,7 +199,7 @@ mutual
 
   all-block-temporaries : (b : Block) (ps : List Procedure) (arrays types : List ℕ) (pc rc : Bool) → AllTypes (blockTemporaries ps arrays types pc rc b)
   all-block-temporaries done ps arrays types pc rc = no-types
-  all-block-temporaries (step l s b) ps arrays types pc rc = all-append (all-temporaries s ps arrays types pc rc)
+  all-block-temporaries (sequence l s b) ps arrays types pc rc = all-append (all-temporaries s ps arrays types pc rc)
       (all-block-temporaries b ps arrays types pc (rcAfter types arrays pc rc s))
 
 pub all-compiled : (ps : List Procedure) (arrays : List ℕ) (p : Procedure) → AllTypes (p .types) → typeWord (p .result) ≡ true → AllTypes (compiledTypes ps arrays p)

@@ -4,11 +4,21 @@ use mathlib.Core.Bool.{Bool, true, false, _||_}
 use mathlib.Core.List.{List, [], _∷_, _++_}
 use native.Mathlib.Omega.{arith}
 use lib.ListN.{length}
-use Rattle.definitions.specs.Image.{Expression, constant, boolean, variable, cell, unary, binary, select, Statement, assign, store, conditional, loop, return, call, Block, done, step, Procedure, guarded, procedureAt}
+use Rattle.definitions.specs.Image.{Expression, constant, boolean, variable, cell, unary, binary, select, Statement}
+use Rattle.definitions.specs.Image.{assign, store, conditional, loop, return, call, Block, done, sequence, Procedure}
+use Rattle.definitions.specs.Image.{guarded, procedureAt}
 use Rattle.definitions.specs.Labels.{secretIn, rcAfter, rcAfterBlock}
-use Rattle.definitions.specs.Compiling.{renamed, moved, movedAll, act, masked, under, followedBy, temporaries, blockTemporaries, compiledIf, compiledReturn, compiledCall, compiledStatement, compiledBlock, closed}
-use Rattle.readback.specs.Fits.{FitsExpression, fit-constant, fit-boolean, fit-variable, fit-cell, fit-unary, fit-binary, fit-select, FitsAll, fit-none, fit-more, FitsStatement, fit-assign, fit-store, fit-conditional, fit-loop, fit-return, fit-call, FitsBlock, fit-block, FitsStatements, fit-done, fit-step, arityOf}
-use Rattle.readback.specs.Good.{GoodExpression, good-constant, good-boolean, good-variable, good-cell, good-unary, good-binary, good-select, GoodArguments, good-none, good-more, GoodStatement, good-assign, good-store, good-conditional, good-loop, good-return, good-call, GoodBlock, good-done, good-step}
+use Rattle.definitions.specs.Compiling.{renamed, moved, movedAll, act, masked, under, followedBy, temporaries}
+use Rattle.definitions.specs.Compiling.{blockTemporaries, compiledIf, compiledReturn, compiledCall, compiledStatement}
+use Rattle.definitions.specs.Compiling.{compiledBlock, closed}
+use Rattle.laws.specs.Fits.{FitsExpression, fit-constant, fit-boolean, fit-variable, fit-cell, fit-unary, fit-binary}
+use Rattle.laws.specs.Fits.{fit-select, FitsAll, fit-none, fit-more, FitsStatement, fit-assign, fit-store}
+use Rattle.laws.specs.Fits.{fit-conditional, fit-loop, fit-return, fit-call, FitsBlock, fit-block, FitsStatements}
+use Rattle.laws.specs.Fits.{fit-done, fit-sequence, arityOf}
+use Rattle.readback.specs.Good.{GoodExpression, good-constant, good-boolean, good-variable, good-cell, good-unary}
+use Rattle.readback.specs.Good.{good-binary, good-select, GoodArguments, good-none, good-more, GoodStatement}
+use Rattle.readback.specs.Good.{good-assign, good-store, good-conditional, good-loop, good-return, good-call}
+use Rattle.readback.specs.Good.{GoodBlock, good-done, good-step}
 
 -- a tree whose words are on the given number of levels
 pub data DeepExpression : ℕ → Expression → Type 0 where
@@ -38,7 +48,7 @@ mutual
 
   pub data DeepStatements : ℕ → Block → Type 0 where
     deep-done : {l : ℕ} → DeepStatements l done
-    deep-step : {l p : ℕ} {s : Statement} {b : Block} → DeepStatement l s → DeepStatements l b → DeepStatements l (step p s b)
+    deep-step : {l p : ℕ} {s : Statement} {b : Block} → DeepStatement l s → DeepStatements l b → DeepStatements l (sequence p s b)
 
 -- one level more does no harm
 pub raise : {l : ℕ} {e : Expression} → DeepExpression l e → DeepExpression (suc l) e
@@ -175,7 +185,7 @@ module _ (ps : List Procedure) (arrays types : List ℕ) (first rv : ℕ) (arity
         {l : ℕ} {b : Block} → FitsStatements arity me l b → (pc : Bool) (arm : ℕ) (rc : Bool) (k : ℕ)
         → DeepStatements (suc (suc (suc l))) (compiledBlock ps arrays types first rv b pc arm rc k)
     deep-statements fit-done pc arm rc k = deep-done
-    deep-statements (fit-step {s = s} f g) pc arm rc k =
+    deep-statements (fit-sequence {s = s} f g) pc arm rc k =
         deep-followed (deep-statement f pc arm rc k) (deep-statements g pc arm (rcAfter types arrays pc rc s) (k + length (temporaries ps arrays types pc rc s)))
 
 -- the whole body
@@ -219,4 +229,4 @@ module _ (ps : List Procedure) (me parameters : ℕ) (types : List ℕ) (result 
     pub good-deep-statements :
         {marks : List ℕ} {l : ℕ} {b : Block} → DeepStatements l b → GoodBlock ps me parameters types result arrays marks b → FitsStatements (arityOf ps) me l b
     good-deep-statements deep-done good-done = fit-done
-    good-deep-statements (deep-step s b) (good-step g gs) = fit-step (good-deep-statement s g) (good-deep-statements b gs)
+    good-deep-statements (deep-step s b) (good-step g gs) = fit-sequence (good-deep-statement s g) (good-deep-statements b gs)

@@ -1,16 +1,11 @@
 -- Trees up to places
 pub mod Like
 -- What is read fits, and what fits is read back from its words
-pub mod Tests
-pub mod Fits
 pub mod Parses
-pub mod Read
-pub mod WellRead
 pub mod Spelling
 pub mod BackBody
 pub mod Back
 -- Faults, and trees that have none in form 1
-pub mod Faulty
 pub mod Clean
 pub mod Good
 pub mod Accepted

@@ -1,11 +1,14 @@
 -- Trees that are the same up to the places of their words. Their words are the same.
 -- Assumes nothing.
 use Prim.Native.Nat.{ℕ}
-use mathlib.Core.List.{List, [], _∷_}
+use mathlib.Core.List.{List, [], _∷_, flatMap}
 use mathlib.Core.Path.{_≡_, refl}
 use lib.ListN.{length}
-use Rattle.definitions.specs.Image.{Expression, constant, boolean, variable, cell, unary, binary, select, Statement, assign, store, conditional, loop, return, call, Block, done, step, Procedure, Image}
-use Rattle.definitions.specs.Encoding.{expressionWords, argumentWords, statementCount, statementWords, statementsWords, blockWords, procedureWords, proceduresWords, imageWords}
+use Rattle.definitions.specs.Image.{Expression, constant, boolean, variable, cell, unary, binary, select, Statement}
+use Rattle.definitions.specs.Image.{assign, store, conditional, loop, return, call, Block, done, sequence, Procedure}
+use Rattle.definitions.specs.Image.{Image}
+use Rattle.definitions.specs.Encoding.{expressionWords, argumentWords, statementCount, statementWords, statementsWords}
+use Rattle.definitions.specs.Encoding.{blockWords, procedureWords, proceduresWords, imageWords}
 
 pub data LikeExpression : Expression → Expression → Type 0 where
   like-constant : {p q v : ℕ} → LikeExpression (constant p v) (constant q v)
@@ -37,7 +40,7 @@ mutual
 
   pub data LikeBlock : Block → Block → Type 0 where
     like-done : LikeBlock done done
-    like-step : {p q : ℕ} {s t : Statement} {b c : Block} → LikeStatement s t → LikeBlock b c → LikeBlock (step p s b) (step q t c)
+    like-step : {p q : ℕ} {s t : Statement} {b c : Block} → LikeStatement s t → LikeBlock b c → LikeBlock (sequence p s b) (sequence q t c)
 
 pub record LikeProcedure (p q : Procedure) : Type 0 where
   pub modes : p .mode ≡ q .mode
@@ -68,7 +71,7 @@ like-expression-words (like-binary e f) = rw (like-expression-words e, like-expr
 like-expression-words (like-select c e f) = rw (like-expression-words c, like-expression-words e, like-expression-words f)
 
 pub like-argument-words : {es fs : List Expression} → LikeAll es fs → argumentWords es ≡ argumentWords fs
-unfolding argumentWords
+unfolding argumentWords flatMap
 like-argument-words like-none = refl
 like-argument-words (like-more e es) = rw (like-expression-words e, like-argument-words es)
 
@@ -106,7 +109,7 @@ unfolding procedureWords
 like-procedure-words p q l = rw (l .modes, l .parameters, l .results, l .types, like-block-words (l .bodies))
 
 pub like-procedures-words : {ps qs : List Procedure} → LikeProcedures ps qs → proceduresWords ps ≡ proceduresWords qs
-unfolding proceduresWords
+unfolding proceduresWords flatMap
 like-procedures-words like-empty = refl
 like-procedures-words (like-next {p} {q} l ls) = rw (like-procedure-words p q l, like-procedures-words ls)
 

@@ -7,18 +7,22 @@ use lib.Dec.{leb}
 use lib.ListN.{length, getD, set, replicate, length-replicate}
 use borrow.Author.Tests.{leb-false}
 use Rattle.definitions.specs.Operators.{wordSort, booleanSort}
-use Rattle.definitions.specs.Image.{Expression, variable, Statement, assign, store, conditional, loop, return, call, Block, done, step, Procedure, guarded, procedureAt}
+use Rattle.definitions.specs.Image.{Expression, variable, Statement, assign, store, conditional, loop, return, call}
+use Rattle.definitions.specs.Image.{Block, done, sequence, Procedure, guarded, procedureAt}
 use Rattle.definitions.specs.Faults.{faultIf}
-use Rattle.definitions.specs.Sorts.{outside, inside, ordinary, operandFaults, loopFault, markStatement, markBlock, statementSortFaults, blockSortFaults}
+use Rattle.definitions.specs.Sorts.{outside, inside, ordinary, operandFaults, loopFault, markStatement, markBlock}
+use Rattle.definitions.specs.Sorts.{statementSortFaults, blockSortFaults}
 use Rattle.definitions.specs.Labels.{secretIn, rcAfter, rcAfterBlock}
-use Rattle.definitions.specs.Compiling.{renamed, moved, movedAll, act, one, followedBy, temporaries, blockTemporaries, Arm, compiledIf, compiledReturn, compiledCall, compiledStatement, compiledBlock, closed}
-use Rattle.readback.specs.Clean.{nil-left, nil-right, fault-none}
+use Rattle.definitions.specs.Compiling.{renamed, moved, movedAll, act, one, followedBy, temporaries, blockTemporaries}
+use Rattle.definitions.specs.Compiling.{ArmCode, compiledIf, compiledReturn, compiledCall, compiledStatement}
+use Rattle.definitions.specs.Compiling.{compiledBlock, closed}
+use Rattle.laws.specs.Tests.{nil-left, nil-right, kept}
 use Rattle.readback.specs.Renaming.{Marked, marked-set}
 
 pub mark-followed : (a b : Block) (marks : List ℕ) → markBlock (followedBy a b) marks ≡ markBlock b (markBlock a marks)
 unfolding markBlock followedBy
 mark-followed done b marks = refl
-mark-followed (step p s a) b marks = mark-followed a b (markStatement s marks)
+mark-followed (sequence p s a) b marks = mark-followed a b (markStatement s marks)
 
 pub mark-closed : (d : Bool) (rv : ℕ) (b : Block) (marks : List ℕ) → markBlock (closed d rv b) marks ≡ markBlock b marks
 unfolding closed markBlock markStatement
@@ -43,7 +47,7 @@ module _ (ps : List Procedure) (arrays types : List ℕ) (parameters result firs
       → Marked first (length types) (markBlock b marks) (markBlock (compiledBlock ps arrays types first rv b pc arm rc k) marks′)
 
   mark-if :
-      (s pc : Bool) (arm : ℕ) (rc : Bool) (live k size : ℕ) (c c′ : Expression) (x y : Block) (ax ay : Arm) (marks marks′ : List ℕ)
+      (s pc : Bool) (arm : ℕ) (rc : Bool) (live k size : ℕ) (c c′ : Expression) (x y : Block) (ax ay : ArmCode) (marks marks′ : List ℕ)
       → ((q : Bool) (v m : ℕ) (here here′ : List ℕ) → Marked first (length types) here here′ → Marked first (length types) (markBlock x here) (markBlock (ax q v m) here′))
       → ((q : Bool) (v m : ℕ) (here here′ : List ℕ) → Marked first (length types) here here′ → Marked first (length types) (markBlock y here) (markBlock (ay q v m) here′))
       → Marked first (length types) marks marks′
@@ -79,7 +83,7 @@ module _ (ps : List Procedure) (arrays types : List ℕ) (parameters result firs
         let ff = operandFaults types n others wordSort f in
         let ft = operandFaults types n others wordSort t in
         let fb = blockSortFaults ps parameters types result n (set others x inside) b in
-        let low = leb-false (length types) x (fault-none (leb (length types) x) 6 p (nil-left f₆ (f₈ ++ (ff ++ (ft ++ fb))) h)) in
+        let low = leb-false (length types) x (kept (leb (length types) x) 6 p (nil-left f₆ (f₈ ++ (ff ++ (ft ++ fb))) h)) in
         mark-block b (set others x inside) (set marks x outside) (set marks′ (renamed first x) outside)
         (nil-right ft fb (nil-right ff (ft ++ fb) (nil-right f₈ (ff ++ (ft ++ fb)) (nil-right f₆ (f₈ ++ (ff ++ (ft ++ fb))) h)))) pc arm (rcAfterBlock types arrays pc rc b) k
         (marked-set few m x outside low)
@@ -91,7 +95,7 @@ module _ (ps : List Procedure) (arrays types : List ℕ) (parameters result firs
         (b : Block) (others marks marks′ : List ℕ) → blockSortFaults ps parameters types result n others b ≡ [] → (pc : Bool) (arm : ℕ) (rc : Bool) (k : ℕ)
         → Marked first (length types) marks marks′ → Marked first (length types) (markBlock b marks) (markBlock (compiledBlock ps arrays types first rv b pc arm rc k) marks′)
     mark-block done others marks marks′ h pc arm rc k m = m
-    mark-block (step p s b) others marks marks′ h pc arm rc k m =
+    mark-block (sequence p s b) others marks marks′ h pc arm rc k m =
         let fs = statementSortFaults ps parameters types result n others p s in
         let fb = blockSortFaults ps parameters types result n others b in
         let c = compiledStatement ps arrays types first rv s pc arm rc k in

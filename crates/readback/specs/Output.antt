@@ -14,9 +14,10 @@ use Rattle.definitions.specs.declared.Compiled.the-variants.{Written, Refused}
 use Rattle.definitions.specs.declared.Checked.the-variants.{Accepted}
 use Rattle.definitions.specs.Image.{Image}
 use Rattle.definitions.specs.Reading.{Parse, got, refused, readImage}
-use Rattle.definitions.specs.Checking.{faultOf, checked}
+use Rattle.definitions.specs.Checking.{checked, admitted}
 use Rattle.definitions.specs.Encoding.{imageWords}
 use Rattle.definitions.specs.Compiling.{compiledImage, fits, written, compiledTree, compiled}
+use Rattle.laws.specs.Admitted.{admitted-read}
 use Rattle.readback.specs.Whole.{Sound}
 use Rattle.readback.specs.Conclusion.{accepted-source, compiled-accepted}
 
@@ -31,45 +32,43 @@ pub record Wrote (whole : Bool) (words out : List ℕ) (n : ℕ) : Type 0 where
   pub output : compiled whole words out .1 ≡ imageWords (compiledImage source) ++ drop n out
   pub accepted : checked true (take n (compiled whole words out .1)) ≡ Accepted
 
--- what the compiler does with a tree, by its four tests
-abbrev outcome : Bool → Bool → Bool → Bool → Image → List ℕ → Compiled × List ℕ
-outcome a b c d i out =
+-- what the compiler does with a tree, by its three tests
+abbrev outcome : Bool → Bool → Bool → Image → List ℕ → Compiled × List ℕ
+outcome a b c i out =
     pick a
     (pick b
-    (pick c
-    (pick d (Written (length (imageWords (compiledImage i))), imageWords (compiledImage i) ++ drop (length (imageWords (compiledImage i))) out) (Refused 16 0, out))
+    (pick c (Written (length (imageWords (compiledImage i))), imageWords (compiledImage i) ++ drop (length (imageWords (compiledImage i))) out) (Refused 16 0, out))
     (Refused 15 0, out))
-    (Refused 14 0, out))
-    (Refused (faultOf i .number) (faultOf i .place), out)
+    (Refused 14 0, out)
 
 clash : {k p n : ℕ} → Refused k p ≡ Written n → ⊥
 clash e = let z : _≡_ {A = ℕ} 0 1 = cc in absurd (omega arith)
 
 abbrev Passed : Image → List ℕ → ℕ → Compiled × List ℕ → Type 0
 Passed i out n r =
-    (faultOf i .number ≡ 0) × (i .form ≡ 0) × (fits (compiledImage i) ≡ true) × (length (imageWords (compiledImage i)) ≡ n) × (r .1 ≡ imageWords (compiledImage i) ++ drop n out)
+    (i .form ≡ 0) × (fits (compiledImage i) ≡ true) × (length (imageWords (compiledImage i)) ≡ n) × (r .1 ≡ imageWords (compiledImage i) ++ drop n out)
 
 passed :
-    (i : Image) (out : List ℕ) (n : ℕ) (a : Bool) → eqb (faultOf i .number) 0 ≡ a → (b : Bool) → eqb (i .form) 0 ≡ b → (c : Bool) → fits (compiledImage i) ≡ c → (d : Bool)
-    → outcome a b c d i out .0 ≡ Written n → Passed i out n (outcome a b c d i out)
-passed i out n true ea true eb true ec true e =
+    (i : Image) (out : List ℕ) (n : ℕ) (a : Bool) → eqb (i .form) 0 ≡ a → (b : Bool) → fits (compiledImage i) ≡ b → (c : Bool)
+    → outcome a b c i out .0 ≡ Written n → Passed i out n (outcome a b c i out)
+passed i out n true ea true eb true e =
     let same : length (imageWords (compiledImage i)) ≡ n = cc in
-    (eqb-true (faultOf i .number) 0 ea, eqb-true (i .form) 0 eb, ec, same, ap (λ (m : ℕ). imageWords (compiledImage i) ++ drop m out) same)
-passed i out n true ea true eb true ec false e = absurd (clash e)
-passed i out n true ea true eb false ec d e = absurd (clash e)
-passed i out n true ea false eb c ec d e = absurd (clash e)
-passed i out n false ea b eb c ec d e = absurd (clash e)
+    (eqb-true (i .form) 0 ea, eb, same, ap (λ (m : ℕ). imageWords (compiledImage i) ++ drop m out) same)
+passed i out n true ea true eb false e = absurd (clash e)
+passed i out n true ea false eb c e = absurd (clash e)
+passed i out n false ea b eb c e = absurd (clash e)
 
 tree-wrote : (x : Parse Image) (out : List ℕ) (n : ℕ) → compiledTree x out .0 ≡ Written n → (i : Image) × (m : ℕ) × (x ≡ got i m) × Passed i out n (compiledTree x out)
 unfolding compiledTree written
 tree-wrote (refused k p) out n e = absurd (clash e)
 tree-wrote (got i m) out n e =
-    (i, m, refl, passed i out n (eqb (faultOf i .number) 0) refl (eqb (i .form) 0) refl (fits (compiledImage i)) refl (leb (length (imageWords (compiledImage i))) (length out)) e)
+    (i, m, refl, passed i out n (eqb (i .form) 0) refl (fits (compiledImage i)) refl (leb (length (imageWords (compiledImage i))) (length out)) e)
 
 pub wrote : (whole : Bool) (words out : List ℕ) (n : ℕ) → compiled whole words out .0 ≡ Written n → Wrote whole words out n
 unfolding compiled
 wrote whole words out n e =
-    let (i, m, reading, (faultless, form, fitting, count, output)) = tree-wrote (readImage whole words) out n e in
+    let (i, m, admits, (form, fitting, count, output)) = tree-wrote (admitted whole words) out n e in
+    let (reading, faultless) = admitted-read whole words i m admits in
     let sound = accepted-source whole words i m reading form faultless in
     let first : take n (compiled whole words out .1) ≡ imageWords (compiledImage i)
     = ap (take n) output ∙ take-at (imageWords (compiledImage i)) (drop n out) n count in

@@ -10,8 +10,14 @@ use Rattle.definitions.specs.Choice.{pick}
 use Rattle.definitions.specs.Arithmetic.{truth}
 use Rattle.definitions.specs.Operators.{applyBinary}
 use Rattle.definitions.specs.Image.{arrayLength, Expression, Statement, Block, Procedure, procedureAt}
-use Rattle.definitions.specs.Running.{traceWords, Evaluated, value, stop, Ran, on, halt, bind, within, andGo, emit, inArray, indexAt, divided, operated, evaluate, evaluateAll, Outcome, next, back, Given, gave, Callee, Body, tick, after, passes, taken, received, runStatement, runBlock, frame, finish, runProcedure}
-use Rattle.readback.specs.Like.{LikeExpression, like-constant, like-boolean, like-variable, like-cell, like-unary, like-binary, like-select, LikeAll, like-none, like-more, LikeStatement, like-assign, like-store, like-conditional, like-loop, like-return, like-call, LikeBlock, like-done, like-step, LikeProcedures}
+use Rattle.definitions.specs.Running.{traceWords, Evaluated, value, stop, Ran, on, halt, bind, within, andGo, emit}
+use Rattle.definitions.specs.Running.{inArray, indexAt, divided, operated, evaluate, evaluateAll, Outcome, next, back}
+use Rattle.definitions.specs.Running.{Given, gave, Callee, Body, tick, after, passes, taken, received, runStatement}
+use Rattle.definitions.specs.Running.{runBlock, frame, finish, runProcedure}
+use Rattle.readback.specs.Like.{LikeExpression, like-constant, like-boolean, like-variable, like-cell, like-unary}
+use Rattle.readback.specs.Like.{like-binary, like-select, LikeAll, like-none, like-more, LikeStatement}
+use Rattle.readback.specs.Like.{like-assign, like-store, like-conditional, like-loop, like-return, like-call}
+use Rattle.readback.specs.Like.{LikeBlock, like-done, like-step, LikeProcedures}
 use Rattle.readback.specs.Accepted.{like-at}
 
 pub data Alike {A : Type 0} : Evaluated (List ℕ) A → Evaluated (List ℕ) A → Type 0 where

@@ -9,20 +9,26 @@ use lib.Dec.{leb, eqb}
 use lib.ListN.{length, getD, length-append}
 use borrow.Author.Tests.{leb-false, not-false, eq-eqb}
 use Rattle.definitions.specs.Choice.{pick}
-use Rattle.definitions.specs.Operators.{booleanSort, count}
-use Rattle.definitions.specs.Image.{typeSecret, typeSort, Expression, boolean, variable, select, placeOf, call, Procedure, guarded, procedureAt}
+use Rattle.definitions.specs.Operators.{booleanSort}
+use Rattle.definitions.specs.Image.{typeSecret, typeSort, Expression, boolean, variable, select, placeOf, call}
+use Rattle.definitions.specs.Image.{Procedure, guarded, procedureAt}
 use Rattle.definitions.specs.Faults.{faultIf}
-use Rattle.definitions.specs.Sorts.{sortOf, sortIn, wrongSort, ordinary, operandFaults, argumentFaults, statementSortFaults}
+use Rattle.definitions.specs.Sorts.{sortOf, sortIn, wrongSort, ordinary, operandFaults, argumentFaults}
+use Rattle.definitions.specs.Sorts.{statementSortFaults}
 use Rattle.definitions.specs.Labels.{secretIn, labelFaults, argumentLabelFaults, statementLabelFaults, rcAfter}
-use Rattle.definitions.specs.Compiling.{secretOf, renamed, movedAll, act, callTemporary, temporaries, compiledCall, compiledStatement}
-use Rattle.readback.specs.Tests.{impossible, and-false, sink, source}
-use Rattle.readback.specs.Parses.{On, on-first}
-use Rattle.readback.specs.Fits.{FitsAll, fit-none, fit-more, arityOf}
-use Rattle.readback.specs.Clean.{nil-left, nil-right, fault-none, sorts-agree}
-use Rattle.readback.specs.Good.{GoodExpression, good-boolean, good-select, GoodArguments, good-none, good-more, good-assign, good-call, good-done, good-step}
+use Rattle.definitions.specs.Compiling.{secretOf, renamed, movedAll, act, callTemporary, temporaries, compiledCall}
+use Rattle.definitions.specs.Compiling.{compiledStatement}
+use Rattle.laws.specs.Tests.{false-true, and-false, nil-left, nil-right, kept}
+use Rattle.laws.specs.Spelled.{On, on-first}
+use Rattle.laws.specs.Fits.{FitsAll, fit-none, fit-more, arityOf}
+use Rattle.readback.specs.Clean.{sink, source, sorts-agree}
+use Rattle.readback.specs.Good.{GoodExpression, good-boolean, good-select, GoodArguments, good-none, good-more}
+use Rattle.readback.specs.Good.{good-assign, good-call, good-done, good-step}
 use Rattle.readback.specs.Source.{type-known, variable-known}
 use Rattle.readback.specs.Renaming.{Marked}
-use Rattle.readback.specs.Setting.{Callee, Setting, inside-room, beyond, variable-sort, sort-moved, secret-moved, good-moved, Slot, Good′, slot-sort, slot-mark, old-mark, old-good, slot-good, act-good, operand-good, StatementGood, keeps}
+use Rattle.readback.specs.Setting.{Callee, Setting, inside-room, beyond, variable-sort, sort-moved, secret-moved}
+use Rattle.readback.specs.Setting.{good-moved, Slot, Good′, slot-sort, slot-mark, old-mark, old-good, slot-good}
+use Rattle.readback.specs.Setting.{act-good, operand-good, StatementGood, keeps}
 
 -- the type word of a secret of a sort
 secret-sort : (r : ℕ) → typeSort (secretOf (typeSort r)) ≡ typeSort r
@@ -61,7 +67,7 @@ module _ (here : Setting) where
       let low : k < q .parameters = omega arith in
       let l₁ = nil-right lₑ (f₉ ++ ls) l in
       let z = operand-good here marks marks′ m fit bounds context (sortOf (q .types) k) (variable-known (q .types) k (omega arith)) (nil-left fₑ fs s) (nil-left lₑ (f₉ ++ ls) l) in
-      let flow = fault-none (secretIn types arrays e && not (typeSecret (getD (q .types) k 0))) 9 (placeOf e) (nil-left f₉ ls l₁) in
+      let flow = kept (secretIn types arrays e && not (typeSecret (getD (q .types) k 0))) 9 (placeOf e) (nil-left f₉ ls l₁) in
       good-more (good-moved here m (z .0)) (sort-moved here (z .0) ∙ z .1 ∙ sym (c .sorts-kept k low)) (rw (secret-moved here (z .0), c .labels-kept k low) flow)
       (arguments-good fits marks marks′ bounds context m q q′ c (k + 1) (omega arith) (nil-right fₑ fs s) (nil-right f₉ ls l₁) extra g)
 
@@ -94,7 +100,7 @@ module _ (here : Setting) where
       (sort ∙ sym q ∙ sym (variable-sort here x h))
       (and-false (secretIn types′ arrays (select 0 act′ (variable 0 k) (variable 0 (renamed first x)))) (not (typeSecret (getD types′ (renamed first x) 0)))
       (rw (typed x h) (sink (typeSecret (procedureAt ps f .result)) (not (typeSecret (getD types x 0))) flow)))) good-done)
-  call-parts true false f x k end act′ es marks marks′ m le low eg on active h o q flow need count args = absurd (impossible (sym need))
+  call-parts true false f x k end act′ es marks marks′ m le low eg on active h o q flow need count args = absurd (false-true (sym need))
   call-parts false true f x k end act′ es marks marks′ m le low eg on active h o q flow need count args =
       let c = callee f low in
       let total : length (movedAll first es ++ (boolean 0 1 ∷ [])) ≡ procedureAt ps′ f .parameters
@@ -127,12 +133,12 @@ module _ (here : Setting) where
       let s₁ = nil-right f₆ (f₈ ++ (f₇ ++ fs)) s in
       let s₂ = nil-right f₈ (f₇ ++ fs) s₁ in
       let l₁ = nil-right f₉ (f₁₂ ++ ls) l in
-      let h = leb-false (length types) x (fault-none (leb (length types) x) 6 p (nil-left f₆ (f₈ ++ (f₇ ++ fs)) s)) in
-      let o = not-false (eqb (getD marks x 0) ordinary) (fault-none (not (eqb (getD marks x 0) ordinary)) 8 p (nil-left f₈ (f₇ ++ fs) s₁)) in
+      let h = leb-false (length types) x (kept (leb (length types) x) 6 p (nil-left f₆ (f₈ ++ (f₇ ++ fs)) s)) in
+      let o = not-false (eqb (getD marks x 0) ordinary) (kept (not (eqb (getD marks x 0) ordinary)) 8 p (nil-left f₈ (f₇ ++ fs) s₁)) in
       call-parts (pc || rc) (guarded (procedureAt ps f)) f x k end (act pc arm rc (rv + 1)) es marks marks′ m le low refl on
       (act-good here marks marks′ m pc arm rc a (keeps here (call f x es) pc rc d)) h o
       (sorts-agree (typeSort r) (sortOf types x) p (nil-left f₇ fs s₂) (type-known r) (variable-known types x h))
-      (fault-none ((typeSecret r || (pc || rc)) && not (typeSecret (getD types x 0))) 9 p (nil-left f₉ (f₁₂ ++ ls) l))
-      (fault-none ((pc || rc) && not (guarded (procedureAt ps f))) 12 p (nil-left f₁₂ ls l₁)) count
+      (kept ((typeSecret r || (pc || rc)) && not (typeSecret (getD types x 0))) 9 p (nil-left f₉ (f₁₂ ++ ls) l))
+      (kept ((pc || rc) && not (guarded (procedureAt ps f))) 12 p (nil-left f₁₂ ls l₁)) count
       (arguments-good fits marks marks′ bounds (pc || rc) m (procedureAt ps f) (procedureAt ps′ f) (callee f low) 0 (zero-add (length es) ∙ count) (nil-right f₇ fs s₂)
       (nil-right f₁₂ ls l₁))

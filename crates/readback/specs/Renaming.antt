@@ -13,7 +13,8 @@ use Rattle.definitions.specs.Image.{typeSecret, Expression}
 use Rattle.definitions.specs.Sorts.{sortOf, sortIn}
 use Rattle.definitions.specs.Labels.{secretIn}
 use Rattle.definitions.specs.Compiling.{renamed, moved}
-use Rattle.readback.specs.Good.{GoodExpression, good-constant, good-boolean, good-variable, good-cell, good-unary, good-binary, good-select}
+use Rattle.readback.specs.Good.{GoodExpression, good-constant, good-boolean, good-variable, good-cell, good-unary}
+use Rattle.readback.specs.Good.{good-binary, good-select}
 
 -- a variable that none of the first n is renumbered to
 abbrev pub Fresh : ℕ → ℕ → ℕ → Type 0

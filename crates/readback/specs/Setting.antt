@@ -9,15 +9,21 @@ use lib.Dec.{ltb, eqb}
 use lib.ListN.{length, getD}
 use borrow.Author.Tests.{lt-ltb, eqb-true}
 use Rattle.definitions.specs.Operators.{booleanSort}
-use Rattle.definitions.specs.Image.{typeSecret, typeSort, Expression, variable, select, placeOf, Statement, assign, store, conditional, loop, return, call, Block, done, step, Procedure, guarded, procedureAt}
-use Rattle.definitions.specs.Sorts.{noSort, sortOf, sortIn, wrongSort, ordinary, outside, sortFaults, operandFaults, statementSortFaults, blockSortFaults}
-use Rattle.definitions.specs.Labels.{secretIn, labelFaults, statementLabelFaults, blockLabelFaults, rcAfter, rcAfterBlock}
-use Rattle.definitions.specs.Compiling.{secretBoolean, renamed, moved, act, masked, under, followedBy, temporaries, blockTemporaries, compiledStatement, compiledBlock, guards}
-use Rattle.readback.specs.Tests.{impossible, and-false, sink, source}
-use Rattle.readback.specs.Parses.{On}
-use Rattle.readback.specs.Fits.{FitsExpression}
-use Rattle.readback.specs.Clean.{nil-left, nil-right, sorts-agree}
-use Rattle.readback.specs.Good.{GoodExpression, good-variable, good-binary, good-select, GoodStatement, good-assign, GoodBlock, good-done, good-step}
+use Rattle.definitions.specs.Image.{typeSecret, typeSort, Expression, variable, select, placeOf, Statement, assign}
+use Rattle.definitions.specs.Image.{store, conditional, loop, return, call, Block, done, sequence, Procedure, guarded}
+use Rattle.definitions.specs.Image.{procedureAt}
+use Rattle.definitions.specs.Sorts.{noSort, sortOf, sortIn, wrongSort, ordinary, outside, sortFaults, operandFaults}
+use Rattle.definitions.specs.Sorts.{statementSortFaults, blockSortFaults}
+use Rattle.definitions.specs.Labels.{secretIn, labelFaults, statementLabelFaults, blockLabelFaults, rcAfter}
+use Rattle.definitions.specs.Labels.{rcAfterBlock}
+use Rattle.definitions.specs.Compiling.{secretBoolean, renamed, moved, act, masked, under, followedBy, temporaries}
+use Rattle.definitions.specs.Compiling.{blockTemporaries, compiledStatement, compiledBlock, guards}
+use Rattle.laws.specs.Tests.{false-true, and-false, nil-left, nil-right}
+use Rattle.laws.specs.Spelled.{On}
+use Rattle.laws.specs.Fits.{FitsExpression}
+use Rattle.readback.specs.Clean.{sink, source, sorts-agree}
+use Rattle.readback.specs.Good.{GoodExpression, good-variable, good-binary, good-select, GoodStatement}
+use Rattle.readback.specs.Good.{good-assign, GoodBlock, good-done, good-step}
 use Rattle.readback.specs.Source.{good-known, source-good}
 use Rattle.readback.specs.Renaming.{Fresh, Marked, renamed-sort, moved-sort, moved-secret, moved-good}
 
@@ -36,7 +42,7 @@ mutual
 
   pub rc-block-stays : (types arrays : List ℕ) (b : Block) (pc : Bool) → rcAfterBlock types arrays pc true b ≡ true
   rc-block-stays types arrays done pc = refl
-  rc-block-stays types arrays (step l s b) pc = rw (rc-stays types arrays s pc) (rc-block-stays types arrays b pc)
+  rc-block-stays types arrays (sequence l s b) pc = rw (rc-stays types arrays s pc) (rc-block-stays types arrays b pc)
 
 -- a procedure that can be called, and what it is compiled to
 pub record Callee (p p′ : Procedure) : Type 0 where
@@ -150,7 +156,7 @@ module _ (here : Setting) where
         )
     act-good true arm false a d h = (slot-good arm secretBoolean (a refl), slot-sort arm secretBoolean (a refl))
     act-good false arm true a d h = (slot-good (rv + 1) secretBoolean (d refl .1), slot-sort (rv + 1) secretBoolean (d refl .1))
-    act-good false arm false a d h = absurd (impossible h)
+    act-good false arm false a d h = absurd (false-true h)
 
     -- what is masked by it
     pub masked-good :

@@ -7,15 +7,18 @@ use native.Mathlib.Omega.{arith}
 use lib.Dec.{leb, eqb}
 use lib.ListN.{length, getD}
 use borrow.Author.Tests.{lt-ltb, leb-false, ne-eqb, not-true}
-use Rattle.definitions.specs.Operators.{Row, row, operators, operator, wordSort, booleanSort, neither, unaryOperand, unaryResult, both, count}
+use Rattle.definitions.specs.Operators.{Row, row, operators, operator, wordSort, booleanSort, neither, unaryOperand}
+use Rattle.definitions.specs.Operators.{unaryResult, both, right}
 use Rattle.definitions.specs.Image.{typeSort, Expression, placeOf}
 use Rattle.definitions.specs.Faults.{faultIf}
 use Rattle.definitions.specs.Sorts.{noSort, sortOf, sortIn, wrongSort, outside, sortFaults}
 use Rattle.definitions.specs.Labels.{secretIn, labelFaults, secretFault, indexFaults, operatorFaults}
-use Rattle.readback.specs.Tests.{and-l, and-r}
-use Rattle.readback.specs.Fits.{FitsExpression, fit-constant, fit-boolean, fit-variable, fit-cell, fit-unary, fit-binary, fit-select}
-use Rattle.readback.specs.Clean.{nil-left, nil-right, fault-none, sorts-agree}
-use Rattle.readback.specs.Good.{GoodExpression, good-constant, good-boolean, good-variable, good-cell, good-unary, good-binary, good-select}
+use Rattle.laws.specs.Tests.{and-left, and-right, nil-left, nil-right, kept}
+use Rattle.laws.specs.Fits.{FitsExpression, fit-constant, fit-boolean, fit-variable, fit-cell, fit-unary, fit-binary}
+use Rattle.laws.specs.Fits.{fit-select}
+use Rattle.readback.specs.Clean.{sorts-agree}
+use Rattle.readback.specs.Good.{GoodExpression, good-constant, good-boolean, good-variable, good-cell, good-unary}
+use Rattle.readback.specs.Good.{good-binary, good-select}
 
 -- the sorts of the table are words and booleans
 allKnown : List Row → Bool
@@ -25,17 +28,17 @@ allKnown (r ∷ rs) = not (eqb (r .operands) noSort) && (not (eqb (r .result) no
 operands-known : (rows : List Row) (o : ℕ) → allKnown rows ≡ true → eqb (getD rows o (row wordSort wordSort neither) .operands) noSort ≡ false
 unfolding allKnown
 operands-known [] o h = refl
-operands-known (r ∷ rs) zero h = not-true (eqb (r .operands) noSort) (and-l (not (eqb (r .operands) noSort)) (not (eqb (r .result) noSort) && allKnown rs) h)
-operands-known (r ∷ rs) (suc o) h = operands-known rs o (and-r (not (eqb (r .result) noSort)) (allKnown rs)
-    (and-r (not (eqb (r .operands) noSort)) (not (eqb (r .result) noSort) && allKnown rs) h))
+operands-known (r ∷ rs) zero h = not-true (eqb (r .operands) noSort) (and-left (not (eqb (r .operands) noSort)) (not (eqb (r .result) noSort) && allKnown rs) h)
+operands-known (r ∷ rs) (suc o) h = operands-known rs o (and-right (not (eqb (r .result) noSort)) (allKnown rs)
+    (and-right (not (eqb (r .operands) noSort)) (not (eqb (r .result) noSort) && allKnown rs) h))
 
 result-known : (rows : List Row) (o : ℕ) → allKnown rows ≡ true → eqb (getD rows o (row wordSort wordSort neither) .result) noSort ≡ false
 unfolding allKnown
 result-known [] o h = refl
 result-known (r ∷ rs) zero h = not-true (eqb (r .result) noSort)
-    (and-l (not (eqb (r .result) noSort)) (allKnown rs) (and-r (not (eqb (r .operands) noSort)) (not (eqb (r .result) noSort) && allKnown rs) h))
-result-known (r ∷ rs) (suc o) h = result-known rs o (and-r (not (eqb (r .result) noSort)) (allKnown rs)
-    (and-r (not (eqb (r .operands) noSort)) (not (eqb (r .result) noSort) && allKnown rs) h))
+    (and-left (not (eqb (r .result) noSort)) (allKnown rs) (and-right (not (eqb (r .operands) noSort)) (not (eqb (r .result) noSort) && allKnown rs) h))
+result-known (r ∷ rs) (suc o) h = result-known rs o (and-right (not (eqb (r .result) noSort)) (allKnown rs)
+    (and-right (not (eqb (r .operands) noSort)) (not (eqb (r .result) noSort) && allKnown rs) h))
 
 operator-known : (o : ℕ) → (eqb (operator o .operands) noSort ≡ false) × (eqb (operator o .result) noSort ≡ false)
 unfolding allKnown
@@ -72,14 +75,14 @@ module _ (types arrays marks : List ℕ) where
   source-good fit-constant bounds context s l = good-constant
   source-good (fit-boolean h) bounds context s l = good-boolean h
   source-good (fit-variable {p = p} {x} h) bounds context s l =
-      good-variable (leb-false (length types) x (fault-none (leb (length types) x) 6 p (nil-left _ _ s)))
-      (fault-none (eqb (getD marks x 0) outside) 8 p (nil-right (faultIf (leb (length types) x) 6 p) _ s))
+      good-variable (leb-false (length types) x (kept (leb (length types) x) 6 p (nil-left _ _ s)))
+      (kept (eqb (getD marks x 0) outside) 8 p (nil-right (faultIf (leb (length types) x) 6 p) _ s))
   source-good (fit-cell {p = p} {a} {i} h f) bounds context s l =
       let s₁ = nil-right (faultIf (leb (length arrays) a) 6 p) (sortFaults types (length arrays) marks i ++ wrongSort wordSort (sortIn types i) (placeOf i)) s in
       let g = source-good f bounds context (nil-left (sortFaults types (length arrays) marks i) _ s₁) (nil-left (labelFaults types arrays bounds context i) _ l) in
-      good-cell (leb-false (length arrays) a (fault-none (leb (length arrays) a) 6 p (nil-left _ _ s))) g
+      good-cell (leb-false (length arrays) a (kept (leb (length arrays) a) 6 p (nil-left _ _ s))) g
       (sorts-agree wordSort (sortIn types i) (placeOf i) (nil-right (sortFaults types (length arrays) marks i) _ s₁) refl (good-known g))
-      (fault-none (secretIn types arrays i) 10 (placeOf i) (nil-left (secretFault types arrays i) _
+      (kept (secretIn types arrays i) 10 (placeOf i) (nil-left (secretFault types arrays i) _
       (nil-right (labelFaults types arrays bounds context i) (indexFaults types arrays bounds context a i) l)))
   source-good (fit-unary {o = o} {e} h f) bounds context s l =
       let g = source-good f bounds context (nil-left (sortFaults types (length arrays) marks e) _ s) l in
@@ -98,10 +101,10 @@ module _ (types arrays marks : List ℕ) where
       (sorts-agree (operator o .operands) (sortIn types e) (placeOf e) (nil-left (wrongSort (operator o .operands) (sortIn types e) (placeOf e)) _ s₁)
       (operator-known o .0) (good-known g))
       (sorts-agree (operator o .operands) (sortIn types f) (placeOf f) (nil-right (sortFaults types (length arrays) marks f) _ s₂) (operator-known o .0) (good-known g′))
-      (fault-none (eqb (operator o .publics) both && secretIn types arrays e) 10 (placeOf e)
+      (kept (eqb (operator o .publics) both && secretIn types arrays e) 10 (placeOf e)
       (nil-left (faultIf (eqb (operator o .publics) both && secretIn types arrays e) 10 (placeOf e)) _ l₂))
-      (fault-none (leb count (operator o .publics) && secretIn types arrays f) 10 (placeOf f)
-      (nil-left (faultIf (leb count (operator o .publics) && secretIn types arrays f) 10 (placeOf f)) _
+      (kept (leb right (operator o .publics) && secretIn types arrays f) 10 (placeOf f)
+      (nil-left (faultIf (leb right (operator o .publics) && secretIn types arrays f) 10 (placeOf f)) _
       (nil-right (faultIf (eqb (operator o .publics) both && secretIn types arrays e) 10 (placeOf e)) _ l₂)))
   source-good (fit-select {c = c} {e} {f} k k′ k″) bounds context s l =
       let sₑ = sortFaults types (length arrays) marks e in

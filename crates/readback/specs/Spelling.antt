@@ -5,7 +5,9 @@ use mathlib.Core.Path.{_≡_, refl}
 use native.Mathlib.Omega.{arith}
 use lib.ListN.{length, length-append}
 use borrow.Author.Tests.{lt-ltb}
-use Rattle.definitions.specs.Image.{kindOf, payloadOf, opOf, targetOf, calledOf, resultOf, expressionWord, statementWord, blockWord, Statement, assign, store, conditional, loop, return, call, Block, done, step}
+use Rattle.definitions.specs.Image.{kindOf, payloadOf, opOf, targetOf, calledOf, resultOf, expressionWord}
+use Rattle.definitions.specs.Image.{statementWord, blockWord, Statement, assign, store, conditional, loop, return, call}
+use Rattle.definitions.specs.Image.{Block, done, sequence}
 use Rattle.definitions.specs.Encoding.{wordWith, statementWordWith, statementCount, statementWords, statementsWords}
 
 pub kind-of : (k p : ℕ) → p < 268435456 → kindOf (wordWith k p) ≡ k
@@ -89,4 +91,4 @@ first-word (call f x es) = omega arith
 pub count-words : (b : Block) → statementCount b ≤ length (statementsWords b)
 unfolding statementCount statementsWords
 count-words done = omega arith
-count-words (step p s b) = rw (length-append (statementWords s) (statementsWords b)) (let h = first-word s in let k = count-words b in omega arith)
+count-words (sequence p s b) = rw (length-append (statementWords s) (statementsWords b)) (let h = first-word s in let k = count-words b in omega arith)

@@ -6,18 +6,18 @@ use mathlib.Core.List.{List, _∷_}
 use mathlib.Core.Path.{_≡_, refl}
 use native.Mathlib.Omega.{arith}
 use lib.ListN.{length}
-use Rattle.definitions.specs.Operators.{count}
-use Rattle.definitions.specs.Image.{typeSecret, Statement, Block, done, step}
+use Rattle.definitions.specs.Image.{typeSecret, Statement, Block, done, sequence}
 use Rattle.definitions.specs.Sorts.{sortIn, statementSortFaults, blockSortFaults}
 use Rattle.definitions.specs.Labels.{secretIn, statementLabelFaults, blockLabelFaults, rcAfter, rcAfterBlock}
 use Rattle.definitions.specs.Compiling.{secretBoolean, temporaries, blockTemporaries, compiledBlock, closed}
-use Rattle.readback.specs.Tests.{and-not}
-use Rattle.readback.specs.Parses.{On, on-first, on-split, on-end}
-use Rattle.readback.specs.Fits.{FitsStatement, fit-assign, fit-store, fit-conditional, fit-loop, fit-return, fit-call, FitsBlock, fit-block, FitsStatements, fit-done, fit-step, arityOf}
-use Rattle.readback.specs.Clean.{nil-left, nil-right}
+use Rattle.laws.specs.Tests.{and-not, nil-left, nil-right}
+use Rattle.laws.specs.Spelled.{On, on-first, on-split, on-end}
+use Rattle.laws.specs.Fits.{FitsStatement, fit-assign, fit-store, fit-conditional, fit-loop, fit-return, fit-call}
+use Rattle.laws.specs.Fits.{FitsBlock, fit-block, FitsStatements, fit-done, fit-sequence, arityOf}
 use Rattle.readback.specs.Good.{good-boolean, good-return, good-done, good-step}
 use Rattle.readback.specs.Renaming.{Marked}
-use Rattle.readback.specs.Setting.{rc-block-stays, Setting, beyond, Deferred, Good′, slot-sort, followed, slot-good, slot-assign, StatementGood, BlockGood}
+use Rattle.readback.specs.Setting.{rc-block-stays, Setting, beyond, Deferred, Good′, slot-sort, followed}
+use Rattle.readback.specs.Setting.{slot-good, slot-assign, StatementGood, BlockGood}
 use Rattle.readback.specs.Writes.{assign-good, store-good, return-good}
 use Rattle.readback.specs.Branches.{loop-good, conditional-good}
 use Rattle.readback.specs.Passing.{call-good}
@@ -25,7 +25,7 @@ use Rattle.readback.specs.Passing.{call-good}
 module _ (here : Setting) where
   open Setting here using (form, ps, arrays, types, types′, me, parameters, result, first, rv)
 
-  step-good : (p : ℕ) (s : Statement) (b : Block) → StatementGood here s → BlockGood here b → BlockGood here (step p s b)
+  step-good : (p : ℕ) (s : Statement) (b : Block) → StatementGood here s → BlockGood here b → BlockGood here (sequence p s b)
   unfolding blockSortFaults blockLabelFaults compiledBlock blockTemporaries rcAfterBlock
   step-good p s b gs gb pc arm rc k end marks marks′ bounds m a d le on sorts labels =
       let ts = temporaries ps arrays types pc rc s in
@@ -59,7 +59,7 @@ module _ (here : Setting) where
 
     pub statements-survive : {l : ℕ} {b : Block} → FitsStatements (arityOf ps) me l b → BlockGood here b
     statements-survive fit-done = done-good
-    statements-survive (fit-step {p = p} {s} {b} f g) = step-good p s b (statement-survives f) (statements-survive g)
+    statements-survive (fit-sequence {p = p} {s} {b} f g) = step-good p s b (statement-survives f) (statements-survive g)
 
   -- RV and LIVE, where they stand first of the variables that are added
   pub deferred-stands : {end : ℕ} {ts : List ℕ} → On types′ rv (result ∷ secretBoolean ∷ ts) end → Deferred here

@@ -1,7 +1,7 @@
 -- A source image that was read and has no fault: its compiled image fits, and is good in each procedure. Assumes nothing.
 use Prim.Native.Nat.{ℕ, suc, _+_, _-_, _≤_, _<_}
 use mathlib.Core.Bool.{Bool, true, false}
-use mathlib.Core.List.{List, [], _∷_, _++_}
+use mathlib.Core.List.{List, [], _∷_, _++_, flatMap}
 use mathlib.Core.Path.{_≡_, refl, ap, sym, _∙_}
 use native.Mathlib.Omega.{arith}
 use native.Mathlib.Nat.{zero-add, add-zero}
@@ -11,17 +11,21 @@ use borrow.Author.Tests.{leb-true}
 use Rattle.definitions.specs.Choice.{pick}
 use Rattle.definitions.specs.Image.{Block, Procedure, Image, guarded, procedureAt}
 use Rattle.definitions.specs.Sorts.{ordinary, markBlock, procedureSortFaults, proceduresSortFaults, imageSortFaults}
-use Rattle.definitions.specs.Labels.{unbounded, blockLabelFaults, procedureLabelFaults, proceduresLabelFaults, imageLabelFaults}
-use Rattle.definitions.specs.Compiling.{secretBoolean, blockTemporaries, compiledBlock, defers, guards, returnVariable, firstTemporary, firstMoved, closed, compiledTypes, compiledBody, compiledProcedure, compiledProcedures, compiledImage, fitLocals}
-use Rattle.readback.specs.Tests.{impossible, and-l, and-r}
-use Rattle.readback.specs.Parses.{On, on-split, on-end}
-use Rattle.readback.specs.Fits.{FitsProcedure, FitsProcedures, no-procedures, more-procedures, arityOf, FitsImage}
-use Rattle.readback.specs.Read.{procedure-fits}
-use Rattle.readback.specs.Clean.{nil-left, nil-right}
+use Rattle.definitions.specs.Labels.{unbounded, blockLabelFaults, procedureLabelFaults, proceduresLabelFaults}
+use Rattle.definitions.specs.Labels.{imageLabelFaults}
+use Rattle.definitions.specs.Compiling.{secretBoolean, blockTemporaries, compiledBlock, defers, guards, returnVariable}
+use Rattle.definitions.specs.Compiling.{firstTemporary, firstMoved, closed, compiledTypes, compiledBody}
+use Rattle.definitions.specs.Compiling.{compiledProcedure, compiledProcedures, compiledImage, fitLocals}
+use Rattle.laws.specs.Tests.{false-true, and-left, and-right, nil-left, nil-right}
+use Rattle.laws.specs.Spelled.{On, on-split, on-end}
+use Rattle.laws.specs.Fits.{FitsProcedure, FitsProcedures, no-procedures, more-procedures, arityOf, FitsImage}
+use Rattle.laws.specs.ReadImages.{procedure-fits}
 use Rattle.readback.specs.Good.{GoodBlock}
 use Rattle.readback.specs.Marks.{mark-closed, mark-block, marked-start}
 use Rattle.readback.specs.Levels.{DeepBlock, deep-block, raise-block, deep-compiled, deep-closed, good-deep-block}
-use Rattle.readback.specs.Layout.{compiled-room, compiled-below, compiled-typed, compiled-local, guard-room, guard-fresh, guard-type, extra-stands, compiled-callee, compiled-at, compiled-count, all-compiled}
+use Rattle.readback.specs.Layout.{compiled-room, compiled-below, compiled-typed, compiled-local, guard-room}
+use Rattle.readback.specs.Layout.{guard-fresh, guard-type, extra-stands, compiled-callee, compiled-at}
+use Rattle.readback.specs.Layout.{compiled-count, all-compiled}
 use Rattle.readback.specs.Setting.{Callee, Setting, Deferred}
 use Rattle.readback.specs.Survive.{block-survives, deferred-stands, body-closed}
 
@@ -105,7 +109,7 @@ module _ (form : ℕ) (ps ps′ : List Procedure) (arrays : List ℕ) (me : ℕ)
           body-good true e
           (λ _. deferred-stands setting on)
           (length (compiledTypes ps arrays p)) there sorts labels
-      go false e on = body-good false e (λ h. absurd (impossible h)) (length (compiledTypes ps arrays p)) (rw (add-zero (returnVariable p)) on) sorts labels
+      go false e on = body-good false e (λ h. absurd (false-true h)) (length (compiledTypes ps arrays p)) (rw (add-zero (returnVariable p)) on) sorts labels
 
 open-mode : (ps : List Procedure) (arrays : List ℕ) (p : Procedure) → _≡_ {A = ℕ} (compiledProcedure ps arrays p .mode) 0
 unfolding compiledProcedure
@@ -118,7 +122,7 @@ module _ (image : Image) (ps′ : List Procedure) where
       → ((f : ℕ) → f < me + length rest → Callee (procedureAt (image .procedures) f) (procedureAt ps′ f))
       → proceduresSortFaults (image .procedures) (length (image .arrays)) rest ≡ [] → proceduresLabelFaults image rest ≡ []
       → GoodProcedures ps′ (image .arrays) me (compiledProcedures (image .procedures) (image .arrays) rest)
-  unfolding proceduresSortFaults proceduresLabelFaults procedureLabelFaults compiledProcedures
+  unfolding proceduresSortFaults proceduresLabelFaults flatMap procedureLabelFaults compiledProcedures
   procedures-good no-procedures callee s l = good-empty
   procedures-good (more-procedures {me} {p} {ps} e fit fits) callee s l =
       let fs = procedureSortFaults (image .procedures) (length (image .arrays)) p in
@@ -178,8 +182,8 @@ module _ (ps : List Procedure) (arrays : List ℕ) (few : length arrays ≤ 16) 
   procedures-compiled-fit (more-procedures {me} {p} {ps = rest} e fit fits) align room low (good-next m g gs) locals =
       let q = compiledProcedure ps arrays p in
       let own : procedureAt ps me ≡ p = ap (procedureAt ps) (sym (add-zero me)) ∙ align 0 (omega arith) in
-      let first : leb (length (q .types) - q .parameters) 246 ≡ true = and-l (leb (length (q .types) - q .parameters) 246) (fitLocals (compiledProcedures ps arrays rest)) locals in
-      let others : fitLocals (compiledProcedures ps arrays rest) ≡ true = and-r (leb (length (q .types) - q .parameters) 246)
+      let first : leb (length (q .types) - q .parameters) 246 ≡ true = and-left (leb (length (q .types) - q .parameters) 246) (fitLocals (compiledProcedures ps arrays rest)) locals in
+      let others : fitLocals (compiledProcedures ps arrays rest) ≡ true = and-right (leb (length (q .types) - q .parameters) 246)
       (fitLocals (compiledProcedures ps arrays rest)) locals in
       more-procedures (ap (λ (z : Procedure). z .parameters) (compiled-at ps arrays ps me (omega arith)) ∙ ap (λ (z : Procedure). compiledProcedure ps arrays z .parameters) own)
       (procedure-compiled-fits ps ps′ arrays me p fit g first (omega arith) few)

@@ -8,18 +8,24 @@ use lib.Dec.{leb, eqb}
 use lib.ListN.{length, getD}
 use borrow.Author.Tests.{leb-false, not-false}
 use Rattle.definitions.specs.Operators.{wordSort, booleanSort}
-use Rattle.definitions.specs.Image.{arraySecret, typeSecret, typeSort, Expression, variable, cell, placeOf, assign, store, return}
+use Rattle.definitions.specs.Image.{arraySecret, typeSecret, typeSort, Expression, variable, cell, placeOf, assign}
+use Rattle.definitions.specs.Image.{store, return}
 use Rattle.definitions.specs.Faults.{faultIf}
 use Rattle.definitions.specs.Sorts.{sortOf, sortIn, ordinary, operandFaults, statementSortFaults}
 use Rattle.definitions.specs.Labels.{secretIn, labelFaults, secretFault, indexFaults, statementLabelFaults, rcAfter}
-use Rattle.definitions.specs.Compiling.{secretBoolean, renamed, moved, act, masked, one, compiledReturn, compiledStatement}
-use Rattle.readback.specs.Tests.{sink, source}
-use Rattle.readback.specs.Fits.{FitsExpression}
-use Rattle.readback.specs.Clean.{nil-left, nil-right, fault-none}
-use Rattle.readback.specs.Good.{GoodExpression, good-boolean, good-cell, good-select, good-assign, good-store, good-return, good-done, good-step}
+use Rattle.definitions.specs.Compiling.{secretBoolean, renamed, moved, act, masked, one, compiledReturn}
+use Rattle.definitions.specs.Compiling.{compiledStatement}
+use Rattle.laws.specs.Fits.{FitsExpression}
+use Rattle.laws.specs.Tests.{nil-left, nil-right, kept}
+use Rattle.readback.specs.Clean.{sink, source}
+use Rattle.readback.specs.Good.{GoodExpression, good-boolean, good-cell, good-select, good-assign, good-store}
+use Rattle.readback.specs.Good.{good-return, good-done, good-step}
 use Rattle.readback.specs.Source.{type-known, variable-known}
 use Rattle.readback.specs.Renaming.{Marked}
-use Rattle.readback.specs.Setting.{Setting, inside-room, variable-sort, sort-moved, secret-moved, good-moved, Deferred, Good′, slot-sort, old-mark, old-good, slot-good, slot-assign, act-good, masked-good, operand-good, masked-sort, masked-flow, StatementGood, keeps}
+use Rattle.readback.specs.Setting.{Setting, inside-room, variable-sort, sort-moved, secret-moved, good-moved}
+use Rattle.readback.specs.Setting.{Deferred, Good′, slot-sort, old-mark, old-good, slot-good, slot-assign}
+use Rattle.readback.specs.Setting.{act-good, masked-good, operand-good, masked-sort, masked-flow, StatementGood}
+use Rattle.readback.specs.Setting.{keeps}
 
 module _ (here : Setting) where
   open Setting here using (arrays, types, types′, result, first, rv, typed)
@@ -31,12 +37,12 @@ module _ (here : Setting) where
       let f₈ = faultIf (not (eqb (getD marks x 0) ordinary)) 8 p in
       let fo = operandFaults types (length arrays) marks (sortOf types x) e in
       let f₉ = faultIf ((secretIn types arrays e || (pc || rc)) && not (typeSecret (getD types x 0))) 9 p in
-      let h = leb-false (length types) x (fault-none (leb (length types) x) 6 p (nil-left f₆ (f₈ ++ fo) s)) in
+      let h = leb-false (length types) x (kept (leb (length types) x) 6 p (nil-left f₆ (f₈ ++ fo) s)) in
       let s₁ = nil-right f₆ (f₈ ++ fo) s in
-      let o = not-false (eqb (getD marks x 0) ordinary) (fault-none (not (eqb (getD marks x 0) ordinary)) 8 p (nil-left f₈ fo s₁)) in
+      let o = not-false (eqb (getD marks x 0) ordinary) (kept (not (eqb (getD marks x 0) ordinary)) 8 p (nil-left f₈ fo s₁)) in
       let z = operand-good here marks marks′ m fit bounds (pc || rc) (sortOf types x) (variable-known types x h) (nil-right f₈ fo s₁)
       (nil-right f₉ (labelFaults types arrays bounds (pc || rc) e) l) in
-      let flow = fault-none ((secretIn types arrays e || (pc || rc)) && not (typeSecret (getD types x 0))) 9 p (nil-left f₉ (labelFaults types arrays bounds (pc || rc) e) l) in
+      let flow = kept ((secretIn types arrays e || (pc || rc)) && not (typeSecret (getD types x 0))) 9 p (nil-left f₉ (labelFaults types arrays bounds (pc || rc) e) l) in
       go h o (z .0) (z .1) flow
     where
       go : x < length types → eqb (getD marks x 0) ordinary ≡ true → GoodExpression types arrays marks e → sortIn types e ≡ sortOf types x
@@ -68,9 +74,9 @@ module _ (here : Setting) where
       let l₂ = nil-right li (lx ++ lₑ) l₁ in
       let z = operand-good here marks marks′ m fit bounds (pc || rc) wordSort refl (nil-left fi fe s₁) (nil-left li (lx ++ lₑ) l₁) in
       let w = operand-good here marks marks′ m fit′ bounds (pc || rc) wordSort refl (nil-right fi fe s₁) (nil-right lx lₑ l₂) in
-      let public = fault-none (secretIn types arrays i) 10 (placeOf i) (nil-left (secretFault types arrays i) _ (nil-left lx lₑ l₂)) in
-      go (leb-false (length arrays) y (fault-none (leb (length arrays) y) 6 p (nil-left f₆ (fi ++ fe) s))) (z .0) (z .1) public (w .0) (w .1)
-      (fault-none ((secretIn types arrays e || (pc || rc)) && not (arraySecret (getD arrays y 0))) 9 p (nil-left f₉ (li ++ (lx ++ lₑ)) l))
+      let public = kept (secretIn types arrays i) 10 (placeOf i) (nil-left (secretFault types arrays i) _ (nil-left lx lₑ l₂)) in
+      go (leb-false (length arrays) y (kept (leb (length arrays) y) 6 p (nil-left f₆ (fi ++ fe) s))) (z .0) (z .1) public (w .0) (w .1)
+      (kept ((secretIn types arrays e || (pc || rc)) && not (arraySecret (getD arrays y 0))) 9 p (nil-left f₉ (li ++ (lx ++ lₑ)) l))
     where
       go : y < length arrays → GoodExpression types arrays marks i → sortIn types i ≡ wordSort → secretIn types arrays i ≡ false
           → GoodExpression types arrays marks e → sortIn types e ≡ wordSort → ((secretIn types arrays e || (pc || rc)) && not (arraySecret (getD arrays y 0))) ≡ false
@@ -112,4 +118,4 @@ module _ (here : Setting) where
       let lₑ = labelFaults types arrays bounds (pc || rc) e in
       let z = operand-good here marks marks′ m fit bounds (pc || rc) (typeSort result) (type-known result) s (nil-right f₉ lₑ l) in
       return-parts (pc || rc) (act pc arm rc (rv + 1)) e marks marks′ m d (act-good here marks marks′ m pc arm rc a (keeps here (return e) pc rc d)) (z .0) (z .1)
-      (fault-none ((secretIn types arrays e || (pc || rc)) && not (typeSecret result)) 9 p (nil-left f₉ lₑ l))
+      (kept ((secretIn types arrays e || (pc || rc)) && not (typeSecret result)) 9 p (nil-left f₉ lₑ l))

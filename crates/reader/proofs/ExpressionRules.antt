@@ -5,15 +5,15 @@ use mathlib.Core.Bool.{Bool, true, false, not}
 use mathlib.Core.List.{List, _∷_}
 use Prim.Native.Nat.{ℕ, zero, suc, _+_, _-_, _/_, _≤_, _<_}
 use native.Mathlib.Omega.{arith}
-use borrow.Author.Tests.{eqb-true, eqb-false, ne-eqb, not-true, not-false}
+use borrow.Author.Tests.{eqb-true, eqb-false, not-true, not-false}
 use lib.Dec.{eqb}
 use lib.ListN.{getD}
-use Rattle.definitions.specs.Choice.{pick}
-use Rattle.definitions.specs.Image.{kindOf, payloadOf, expressionWord, rawWord, Expression, constant, cell, unary, binary, select}
-use Rattle.definitions.specs.Reading.{Parse, got, refused, Reader, andThen, onWord, expressionAt, readExpression, readArguments}
-use Rattle.opening.specs.Parses.{false-true}
-use Rattle.opening.specs.Expressions.{expression-step}
-use Rattle.opening.specs.Words.{select-kind}
+use Rattle.definitions.specs.Image.{kindOf, payloadOf, expressionWord, rawWord, Expression, constant, cell, unary}
+use Rattle.definitions.specs.Image.{binary, select}
+use Rattle.definitions.specs.Reading.{Parse, got, refused, Reader, andThen, onWord, expressionAt, readExpression}
+use Rattle.definitions.specs.Reading.{readArguments}
+use Rattle.laws.specs.ExpressionInversion.{expression-step}
+use Rattle.laws.specs.WordTests.{select-kind, kinds}
 use Rattle.reader.specs.declared.Read.{Read}
 use Rattle.reader.specs.declared.Read.the-variants.{At, Refused}
 use Rattle.reader.specs.Answers.{answer, wordAt, rawAnswer, readArgumentsAt}
@@ -42,59 +42,25 @@ pub ruleset raw·rules = (raw-end, raw-bad, raw-good)
 
 -- ---- what follows the first word, by the number of operands
 
-none-left : {A : Type 0} (a b c : Bool) (x : Parse A) (p : ℕ)
-    → pick {A = Reader A} a (λ _. x) (pick {A = Reader A} b (λ _. x) (pick {A = Reader A} c (λ _. x) (λ _. x))) p ≡ x
-none-left true b c x p = refl
-none-left false true c x p = refl
-none-left false false true x p = refl
-none-left false false false x p = refl
-
 module _ (operand : Reader Expression) (image : List ℕ) (at w v : ℕ) where
   none-at : expressionWord w ≡ true → (kindOf w ≡ 8 → ⊥) → kindOf w ≤ 10 → At v (at + 1) ≡ answer v (expressionAt operand image at w)
-  unfolding answer expressionWord
-  none-at g n8 le = go (eqb (kindOf w) 7) (eqb (kindOf w) 9) (eqb (kindOf w) 10) refl refl refl
-    where
-      go : (a b c : Bool) → eqb (kindOf w) 7 ≡ a → eqb (kindOf w) 9 ≡ b → eqb (kindOf w) 10 ≡ c
-          → At v (at + 1) ≡ answer v (expressionAt operand image at w)
-      go true b c p q r = rw p
-      go false true c p q r = rw (p, ne-eqb _ _ n8, q)
-      go false false true p q r = rw (p, ne-eqb _ _ n8, q, r)
-      go false false false p q r =
-          let n7 = eqb-false (kindOf w) 7 p in
-          let n9 = eqb-false (kindOf w) 9 q in
-          let n10 = eqb-false (kindOf w) 10 r in
-          let n11 : kindOf w ≡ 11 → ⊥ = λ z. omega arith in
-          let n12 : kindOf w ≡ 12 → ⊥ = λ z. omega arith in
-          let n13 : kindOf w ≡ 13 → ⊥ = λ z. omega arith in
-          let n14 : kindOf w ≡ 14 → ⊥ = λ z. omega arith in
-          false-true (rw (p, ne-eqb _ _ n8, q, r, ne-eqb _ _ n11, ne-eqb _ _ n12, ne-eqb _ _ n13, ne-eqb _ _ n14) at g)
+  unfolding answer
+  none-at g n8 le =
+      kinds w g (λ k. rw k) (λ k. absurd (n8 k)) (λ k. rw k) (λ k. rw k)
+      (λ k. absurd (omega arith)) (λ k. absurd (omega arith)) (λ k. absurd (omega arith)) (λ k. absurd (omega arith))
 
-  module _ (more : 10 < kindOf w) where
-    n7 : kindOf w ≡ 7 → ⊥
-    n7 z = omega arith
-
-    n8 : kindOf w ≡ 8 → ⊥
-    n8 z = omega arith
-
-    n9 : kindOf w ≡ 9 → ⊥
-    n9 z = omega arith
-
-    n10 : kindOf w ≡ 10 → ⊥
-    n10 z = omega arith
-
+  module _ (g : expressionWord w ≡ true) (more : 10 < kindOf w) where
     first-refused : (n q : ℕ) → operand (at + 1) ≡ refused n q → expressionAt operand image at w ≡ refused n q
     first-refused n q e =
-        rw (ne-eqb _ _ n7, ne-eqb _ _ n8, ne-eqb _ _ n9, ne-eqb _ _ n10, e)
-        (none-left (eqb (kindOf w) 11) (eqb (kindOf w) 12) (eqb (kindOf w) 13) (refused n q) (payloadOf w))
+        kinds w g (λ k. absurd (omega arith)) (λ k. absurd (omega arith)) (λ k. absurd (omega arith)) (λ k. absurd (omega arith))
+        (λ k. rw (k, e)) (λ k. rw (k, e)) (λ k. rw (k, e)) (λ k. rw (k, e))
 
     one-at : kindOf w ≤ 12 → answer v (expressionAt operand image at w) ≡ answer v (operand (at + 1))
-    one-at le = go (eqb (kindOf w) 11) refl
-      where
-        go : (b : Bool) → eqb (kindOf w) 11 ≡ b → answer v (expressionAt operand image at w) ≡ answer v (operand (at + 1))
-        go true p = rw (ne-eqb _ _ n7, ne-eqb _ _ n8, ne-eqb _ _ n9, ne-eqb _ _ n10, p) (answer-last v (operand (at + 1)) (λ i. cell at (payloadOf w) i))
-        go false p =
-            let n11 = eqb-false (kindOf w) 11 p in
-            let k : kindOf w ≡ 12 = omega arith in rw k (answer-last v (operand (at + 1)) (λ e. unary at (payloadOf w) e))
+    one-at le =
+        kinds w g (λ k. absurd (omega arith)) (λ k. absurd (omega arith)) (λ k. absurd (omega arith)) (λ k. absurd (omega arith))
+        (λ k. rw k (answer-last v (operand (at + 1)) (λ i. cell at (payloadOf w) i)))
+        (λ k. rw k (answer-last v (operand (at + 1)) (λ e. unary at (payloadOf w) e)))
+        (λ k. absurd (omega arith)) (λ k. absurd (omega arith))
 
   two-at : kindOf w ≡ 13 → answer v (expressionAt operand image at w) ≡ answer v (andThen (operand (at + 1)) (λ e n. operand n))
   two-at k = rw k (last (operand (at + 1)))
@@ -199,7 +165,7 @@ module _ (l : ℕ) (image : List ℕ) (at : ℕ) (r : Read) (e : r ≡ wordAt im
           pub expression-one-bad : (n q : ℕ) → r1 ≡ Refused n q → r1 ≡ answer (getD image at 0) (readExpression l image at)
           expression-one-bad n q d1 =
               shown r1 (d1 ∙ answer-refused w (expressionAt (λ a. readExpression (l - 1) image a) image at w) n q
-              (first-refused (λ a. readExpression (l - 1) image a) image at w w more n q
+              (first-refused (λ a. readExpression (l - 1) image a) image at w w good more n q
               (sym first ∙ refused-of (getD image next 0) (readExpression (l - 1) image next) r1 n q e1 d1)))
 
           module _ (v1 n1 : ℕ) (d1 : r1 ≡ At v1 n1) where
@@ -207,7 +173,7 @@ module _ (l : ℕ) (image : List ℕ) (at : ℕ) (r : Read) (e : r ≡ wordAt im
             expression-one le =
                 let (a, q) = got-of (getD image next 0) (readExpression (l - 1) image next) r1 v1 n1 e1 d1 in
                 shown (At w n1) (answer-got w (readExpression (l - 1) image (at + 1)) a n1 (sym first ∙ q)
-                ∙ sym (one-at (λ a. readExpression (l - 1) image a) image at w w more le))
+                ∙ sym (one-at (λ a. readExpression (l - 1) image a) image at w w good more le))
 
             module _ (much : 12 < w / 268435456) (r2 : Read) (e2 : r2 ≡ answer (getD image n1 0) (readExpression (l - 1) image n1)) where
               pub expression-two-bad : (n q : ℕ) → r2 ≡ Refused n q → r2 ≡ answer (getD image at 0) (readExpression l image at)

@@ -9,15 +9,19 @@ use lib.Dec.{eqb, leb}
 use lib.ListN.{length, getD, set, replicate, length-append}
 use lib.Seq.{getD-set-other}
 use Rattle.definitions.specs.Choice.{pick}
-use Rattle.definitions.specs.Image.{headerWord, formOf, arraysOf, proceduresOf, largestImage, parametersOf, Procedure, Image}
-use Rattle.definitions.specs.Reading.{Parse, got, refused, andThen, readArrays, readProcedure, readProcedures, readRest, readImage}
-use Rattle.opening.specs.Parses.{ok, false-true, got-same}
-use Rattle.opening.specs.Words.{and-right, header-limits}
-use Rattle.opening.specs.Procedures.{open-procedure}
+use Rattle.definitions.specs.Image.{headerWord, formOf, arraysOf, proceduresOf, largestImage, parametersOf, Procedure}
+use Rattle.definitions.specs.Image.{Image}
+use Rattle.definitions.specs.Reading.{Parse, got, refused, andThen, readArrays, readProcedure, readProcedures, readRest}
+use Rattle.definitions.specs.Reading.{readImage}
+use Rattle.laws.specs.Tests.{false-true, and-right}
+use Rattle.laws.specs.Parses.{ok, got-same}
+use Rattle.laws.specs.WordTests.{header-limits}
+use Rattle.laws.specs.ReadImages.{open-procedure}
 use Rattle.reader.specs.declared.Read.{Read}
 use Rattle.reader.specs.declared.Read.the-variants.{At, Refused}
 use Rattle.reader.specs.Answers.{answer}
-use Rattle.reader.specs.Tables.{Sound, BlockEnds, Filled, FilledBy, Tables, TablesOf, sound-ends, later-sound, zeros-sound, filled-none, filled-more}
+use Rattle.reader.specs.Tables.{Sound, BlockEnds, Filled, FilledBy, Tables, TablesOf, sound-ends, later-sound}
+use Rattle.reader.specs.Tables.{zeros-sound, filled-none, filled-more}
 use Rattle.reader.specs.AnswerLaws.{got-of, refused-of, answer-got, answer-refused}
 use Rattle.reader.proofs.Answers.{one-more, answer-last}
 

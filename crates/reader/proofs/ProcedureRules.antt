@@ -7,9 +7,11 @@ use Prim.Native.Nat.{ℕ, _+_, _-_, _/_, _%_, _≤_, _<_}
 use native.Mathlib.Omega.{arith}
 use borrow.Author.Tests.{not-true, not-false}
 use lib.ListN.{getD}
-use Rattle.definitions.specs.Image.{arrayLength, arrayWord, typeWord, procedureWord, parametersOf, localsOf, modeOf, largestLevel, Block, Procedure}
-use Rattle.definitions.specs.Reading.{Parse, got, refused, andThen, onWord, readTypes, readArrays, readBlock, readProcedure}
-use Rattle.opening.specs.Words.{array-limits}
+use Rattle.definitions.specs.Image.{arrayLength, arrayWord, typeWord, procedureWord, parametersOf, localsOf, modeOf}
+use Rattle.definitions.specs.Image.{largestLevel, Block, Procedure}
+use Rattle.definitions.specs.Reading.{Parse, got, refused, andThen, onWord, readTypes, readArrays, readBlock}
+use Rattle.definitions.specs.Reading.{readProcedure}
+use Rattle.laws.specs.WordTests.{array-limits}
 use Rattle.reader.specs.declared.Read.{Read}
 use Rattle.reader.specs.declared.Read.the-variants.{At, Refused}
 use Rattle.reader.specs.Answers.{answer, wordAt, bodyAnswer}

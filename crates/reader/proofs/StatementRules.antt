@@ -9,13 +9,16 @@ use borrow.Author.Tests.{eqb-true, eqb-false, ne-eqb, not-true, not-false}
 use lib.Dec.{eqb}
 use lib.ListN.{getD}
 use Rattle.definitions.specs.Choice.{pick}
-use Rattle.definitions.specs.Image.{payloadOf, opOf, targetOf, calledOf, resultOf, statementWord, blockWord, Expression, Statement, assign, store, conditional, loop, return, call, Block, step}
-use Rattle.definitions.specs.Reading.{Parse, got, refused, andThen, onWord, statementAt, readExpression, readArguments, readStatement, readStatements, readBlock}
-use Rattle.opening.specs.Words.{call-op}
-use Rattle.opening.specs.Statements.{statement-step, block-step}
+use Rattle.definitions.specs.Image.{payloadOf, opOf, targetOf, calledOf, resultOf, statementWord, blockWord, Expression}
+use Rattle.definitions.specs.Image.{Statement, assign, store, conditional, loop, return, call, Block, sequence}
+use Rattle.definitions.specs.Reading.{Parse, got, refused, andThen, onWord, statementAt, readExpression, readArguments}
+use Rattle.definitions.specs.Reading.{readStatement, readStatements, readBlock}
+use Rattle.laws.specs.WordTests.{call-op}
+use Rattle.laws.specs.StatementInversion.{statement-step, block-step}
 use Rattle.reader.specs.declared.Read.{Read}
 use Rattle.reader.specs.declared.Read.the-variants.{At, Refused}
-use Rattle.reader.specs.Answers.{answer, wordAt, readArgumentsAt, readStatementsAt, simpleAnswer, ifAnswer, forAnswer}
+use Rattle.reader.specs.Answers.{answer, wordAt, readArgumentsAt, readStatementsAt, simpleAnswer, ifAnswer}
+use Rattle.reader.specs.Answers.{forAnswer}
 use Rattle.reader.specs.Tables.{Sound, marked, mark-sound}
 use Rattle.reader.specs.AnswerLaws.{got-of, refused-of, answer-got, answer-refused}
 use Rattle.reader.proofs.Answers.{one-more, answer-last, word-of, word-end, word-bad, word-good}
@@ -313,7 +316,7 @@ module _ (n k l : ℕ) (params : List ℕ) (me : ℕ) (image : List ℕ) (a : �
 
   module _ (h : k < n) (r : Read) (e : r ≡ answer (getD image a 0) (readStatement l params me image a)) where
     rest : Parse Statement → Parse Block
-    rest z = andThen z (λ s m. andThen (readStatementsAt (n - (k + 1)) l params me image m) (λ b o. got (Block.step a s b) o))
+    rest z = andThen z (λ s m. andThen (readStatementsAt (n - (k + 1)) l params me image m) (λ b o. got (Block.sequence a s b) o))
 
     turn : answer 0 (rest (readStatement l params me image a)) ≡ X
     unfolding readStatementsAt readStatements rest
@@ -328,7 +331,7 @@ module _ (n k l : ℕ) (params : List ℕ) (me : ℕ) (image : List ℕ) (a : �
     unfolding rest
     statements-more v next d =
         let (x, q) = got-of (getD image a 0) (readStatement l params me image a) r v next e d in
-        sym (answer-last 0 (readStatementsAt (n - (k + 1)) l params me image next) (λ b. Block.step a x b))
+        sym (answer-last 0 (readStatementsAt (n - (k + 1)) l params me image next) (λ b. Block.sequence a x b))
         ∙ sym (ap (λ z. answer 0 (rest z)) q) ∙ turn
 
 pub ruleset statements·rules = (statements-begin, statements-done, statements-bad, statements-more)

@@ -10,7 +10,7 @@ use borrow.Author.Tests.{lt-ltb, le-ltb}
 use lib.ListN.{length, getD, set, take, replicate, replicate-append-replicate, List·getD-eq-default}
 use lib.Seq.{set-out, take-suc-set, take-all}
 use Rattle.definitions.specs.Reading.{readBlock}
-use Rattle.opening.specs.Parses.{ok, endOf, end-of}
+use Rattle.laws.specs.Parses.{ok, endOf, end-of}
 use Rattle.reader.specs.declared.Read.{Read}
 use Rattle.reader.specs.declared.Read.the-variants.{At, Refused}
 use Rattle.reader.specs.Answers.{answer}

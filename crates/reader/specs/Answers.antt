@@ -5,7 +5,8 @@ use lib.Dec.{leb, eqb}
 use lib.ListN.{length, getD}
 use Rattle.definitions.specs.Choice.{pick}
 use Rattle.definitions.specs.Image.{Expression, Block, rawWord, opOf, calledOf, parametersOf, localsOf, largestLevel}
-use Rattle.definitions.specs.Reading.{Parse, got, refused, andThen, readExpression, readArguments, readStatement, readStatements, readBlock, readTypes}
+use Rattle.definitions.specs.Reading.{Parse, got, refused, andThen, readExpression, readArguments, readStatement}
+use Rattle.definitions.specs.Reading.{readStatements, readBlock, readTypes}
 use Rattle.reader.specs.declared.Read.{Read}
 use Rattle.reader.specs.declared.Read.the-variants.{At, Refused}
 

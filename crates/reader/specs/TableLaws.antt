@@ -8,16 +8,16 @@ use native.Mathlib.Omega.{arith}
 use lib.ListN.{length, getD}
 use Rattle.definitions.specs.Image.{modeOf, parametersOf, localsOf, largestLevel, Image, procedureAt}
 use Rattle.definitions.specs.Reading.{got, readBlock}
-use Rattle.opening.specs.Parses.{ok, ok-of}
-use Rattle.opening.specs.Words.{procedure-limits, most-locals}
-use Rattle.opening.specs.Statements.{open-block}
-use Rattle.opening.specs.Procedures.{ProcedureWords, open-procedure}
+use Rattle.laws.specs.Parses.{ok, ok-of}
+use Rattle.laws.specs.WordTests.{procedure-limits, most-locals}
+use Rattle.laws.specs.StatementInversion.{open-block}
+use Rattle.laws.specs.ReadImages.{ProcedureWords, open-procedure}
 use Rattle.reader.specs.Tables.{Filled, Tables}
 
 module _ (image : List ℕ) (tree : Image) (params places ends : List ℕ) (t : Tables image tree params places ends)
     (f : ℕ) (h : f < length (tree .procedures)) where
   -- the procedure as it was read at its place
-  pub table-procedure : (m : ℕ) × ProcedureWords (tree .form) params f image (getD places f 0) (procedureAt (tree .procedures) f) m
+  pub table-procedure : (m : ℕ) × ProcedureWords image (tree .form) params f (getD places f 0) (procedureAt (tree .procedures) f) m
   unfolding Filled
   table-procedure =
       let (m, r, e) = t .filled f h in

@@ -12,10 +12,10 @@ use lib.Seq.{getD-set-same, getD-set-other, getD-at, set-out}
 use Rattle.definitions.specs.Choice.{pick}
 use Rattle.definitions.specs.Image.{Block, Procedure, Image, procedureAt, noProcedure}
 use Rattle.definitions.specs.Reading.{Parse, got, readBlock, readProcedure, readProcedures}
-use Rattle.opening.specs.Parses.{ok, endOf, got-ok, end-of}
-use Rattle.opening.specs.Levels.{Agree, grow-got, grow-block}
-use Rattle.opening.specs.Later.{one-block}
-use Rattle.opening.specs.Procedures.{procedure-params}
+use Rattle.laws.specs.Parses.{ok, endOf, got-ok, end-of}
+use Rattle.laws.specs.Levels.{Agree, grow-got, grow-block}
+use Rattle.laws.specs.Later.{one-block}
+use Rattle.laws.specs.ReadImages.{procedure-params}
 
 -- ---- the ends of blocks
 

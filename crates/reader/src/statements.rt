@@ -4,7 +4,7 @@ ghost use mathlib.Core.Bool.{true};
 ghost use Prim.Native.Nat.{_≤_, _<_};
 ghost use lib.ListN.{getD};
 ghost use Rattle.definitions.specs.Reading.{readBlock, readStatement};
-ghost use Rattle.opening.specs.Parses.{ok, endOf};
+ghost use Rattle.laws.specs.Parses.{ok, endOf};
 ghost use Rattle.reader.specs.Answers.{answer, simpleAnswer, ifAnswer, forAnswer, readStatementsAt};
 ghost use Rattle.reader.specs.Tables.{Sound, BlockEnds};
 use super::Read;

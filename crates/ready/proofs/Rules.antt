@@ -1,29 +1,29 @@
 -- Each way in which a lent image is found ready or not. Assumes nothing.
 use mathlib.Core.Path.{_≡_, refl, sym, ap, _∙_}
 use mathlib.Core.Bool.{Bool, true, false, _&&_}
-use mathlib.Core.List.{List, []}
-use Prim.Native.Nat.{ℕ, _+_, _-_, _*_, _/_, _%_, _≤_, _<_, min}
+use mathlib.Core.List.{List}
+use Prim.Native.Nat.{ℕ, _+_, _-_, _%_, _≤_, _<_, min}
 use native.Mathlib.Omega.{arith}
-use borrow.Author.Tests.{le-leb, lt-leb, leb-true, leb-false, eqb-true, eqb-false, ne-eqb}
+use borrow.Author.Tests.{le-leb, lt-leb, leb-true, leb-false, eqb-true}
 use lib.Dec.{leb, eqb}
-use lib.ListN.{length, getD, take, drop, length-take, length-drop}
-use lib.Seq.{take-all, length-take-le}
+use lib.ListN.{length, getD, take, drop, length-take}
+use lib.Seq.{take-all}
 use Rattle.definitions.specs.Choice.{pick}
 use Rattle.definitions.specs.Bytes.{wordsOf}
 use Rattle.definitions.specs.Image.{Image, arraysOf, cellCount}
-use Rattle.definitions.specs.Reading.{Parse, got, refused, readImage}
-use Rattle.definitions.specs.Checking.{judged, checked}
-use Rattle.definitions.specs.Requests.{ready, unready, readyTree, readyToLoad, readyToServe}
+use Rattle.definitions.specs.Reading.{Parse, got, readImage}
+use Rattle.definitions.specs.Checking.{withoutFault, admitted, checked}
+use Rattle.definitions.specs.Requests.{ready, unready, withCells, readyToLoad, readyToServe}
 use Rattle.definitions.specs.Host.{wholeWords}
 use Rattle.definitions.specs.declared.Checked.{Checked}
 use Rattle.definitions.specs.declared.Checked.the-variants.{Refused as CheckRefused, Accepted as CheckAccepted}
 use Rattle.words.proofs.Laws.{length-wordsOf}
-use Rattle.places.specs.Named.{checkedPlace}
-use Rattle.places.specs.Answers.{checked-within}
+use Rattle.results.specs.Images.{checked-within}
 use Rattle.image_bytes.specs.FirstWords.{same-read}
-use Rattle.reader.specs.Tables.{Tables, TablesOf, tables-of}
+use Rattle.reader.specs.Tables.{TablesOf, tables-of}
 use Rattle.requests.specs.Ready.{ready-refused, ready-accepted, accepted-read, enough-cells, few-cells}
-use Rattle.requests.specs.ReadImages.{ImageRead, image-read}
+use Rattle.laws.specs.ReadImages.{open-image}
+use Rattle.laws.specs.ImageIn.{length-limit, arrays-limit, cells-limit, arrays-inside, arrays-part}
 use Rattle.ready.specs.declared.Ready.{Ready}
 use Rattle.ready.specs.declared.Ready.the-variants.{Words, Unready}
 use Rattle.ready.specs.Prepared.{arraysIn, countedOn, Serves, Judged, Prepared}
@@ -49,10 +49,6 @@ part-short words n h = rw length-take (omega arith)
 -- ---- the verdict
 
 module _ (whole : Bool) (words : List ℕ) (count : ℕ) (c : Checked) (e : c ≡ checked whole words) (params places ends : List ℕ) where
-  verdict : c ≡ judged (readImage whole words)
-  unfolding checked
-  verdict = e
-
   pub judge-refused : (k p : ℕ) → c ≡ CheckRefused k p → Judged (Unready k p) whole words count params places ends
   judge-refused k p f =
       record {
@@ -60,7 +56,7 @@ module _ (whole : Bool) (words : List ℕ) (count : ℕ) (c : Checked) (e : c �
             let a : k ≡ i = cc in
             let b : p ≡ q = cc in
             let within : p ≤ length words = rw (← e, f) at (checked-within whole words) in
-            rw (← a, ← b) (ready-refused (readImage whole words) count k p (sym verdict ∙ f), within);
+            rw (← a, ← b) (ready-refused whole words count k p (sym e ∙ f), within);
         accepted = λ n m s. absurd (let z : _≡_ {A = ℕ} 0 1 = cc in omega arith);
       }
 
@@ -68,18 +64,18 @@ module _ (whole : Bool) (words : List ℕ) (count : ℕ) (c : Checked) (e : c �
     -- what counting the cells needs
     pub judge-header : (arraysOf (getD words 0 0) ≤ 16) × (1 + arraysOf (getD words 0 0) ≤ length words)
     judge-header =
-        let (tree, end, r) = accepted-read (readImage whole words) (sym verdict ∙ f) in
-        let i = image-read whole words tree end r in (i .fewArrays, i .arraysWithin)
+        let (tree, end, r) = accepted-read whole words (sym e ∙ f) in
+        let i = open-image whole words tree end r in (arrays-limit i, arrays-inside i)
 
     pub judge-accepted : TablesOf (readImage whole words) words params places ends → (r : Ready) → r ≡ countedOn words count
         → Judged r whole words count params places ends
     unfolding countedOn
     judge-accepted t r q =
-        let (tree, end, s) = accepted-read (readImage whole words) (sym verdict ∙ f) in
+        let (tree, end, s) = accepted-read whole words (sym e ∙ f) in
         go tree end s (leb (cellCount (arraysIn words)) count) refl q
       where
         own : (tree : Image) (end : ℕ) → readImage whole words ≡ got tree end → cellCount (arraysIn words) ≡ cellCount (tree .arrays)
-        own tree end s = ap cellCount (sym (image-read whole words tree end s .arrays))
+        own tree end s = ap cellCount (arrays-part (open-image whole words tree end s))
 
         serves : (tree : Image) (end cells : ℕ) → readImage whole words ≡ got tree end → cells ≡ cellCount (arraysIn words)
             → cellCount (arraysIn words) ≤ count → Serves whole words cells count params places ends tree
@@ -90,7 +86,7 @@ module _ (whole : Bool) (words : List ℕ) (count : ℕ) (c : Checked) (e : c �
               read = s;
               own = b ∙ o;
               enough = omega arith;
-              few = (let m = image-read whole words tree end s .fewCells in omega arith);
+              few = (let m = cells-limit (open-image whole words tree end s) in omega arith);
               tables = tables-of (readImage whole words) words params places ends tree end t s;
             }
 
@@ -99,8 +95,8 @@ module _ (whole : Bool) (words : List ℕ) (count : ℕ) (c : Checked) (e : c �
         go tree end s true g u =
             let fits : cellCount (arraysIn words) ≤ count = leb-true (cellCount (arraysIn words)) count g in
             let o = own tree end s in
-            let good : readyTree (readImage whole words) count ≡ ready tree =
-            ready-accepted (readImage whole words) count tree end s (sym verdict ∙ f) ∙ enough-cells tree count (omega arith) in
+            let good : readyToLoad whole words count ≡ ready tree =
+            ready-accepted whole words count tree end s (sym e ∙ f) ∙ enough-cells tree count (omega arith) in
             record {
               refusal = λ k p v. absurd (let z : _≡_ {A = ℕ} 0 1 = cc in omega arith);
               accepted = λ n cells v.
@@ -111,8 +107,8 @@ module _ (whole : Bool) (words : List ℕ) (count : ℕ) (c : Checked) (e : c �
         go tree end s false g u =
             let short : count < cellCount (arraysIn words) = leb-false (cellCount (arraysIn words)) count g in
             let o = own tree end s in
-            let bad : readyTree (readImage whole words) count ≡ unready 17 0 =
-            ready-accepted (readImage whole words) count tree end s (sym verdict ∙ f) ∙ few-cells tree count (omega arith) in
+            let bad : readyToLoad whole words count ≡ unready 17 0 =
+            ready-accepted whole words count tree end s (sym e ∙ f) ∙ few-cells tree count (omega arith) in
             record {
               refusal = λ k p v.
                   let a : 17 ≡ k = cc in
@@ -147,25 +143,25 @@ module _ (image words : List ℕ) (n count : ℕ) (e : take n words ≡ take 163
   reads : readImage whole (take n words) ≡ readImage (wholeWords image) (wordsOf image)
   reads = same-read image (take n words) whole e w
 
-  same-ready : readyTree (readImage whole (take n words)) count ≡ readyToLoad (wholeWords image) (wordsOf image) count
-  unfolding readyToLoad
-  same-ready = ap (λ (x : Parse Image). readyTree x count) reads
+  same-ready : readyToLoad whole (take n words) count ≡ readyToLoad (wholeWords image) (wordsOf image) count
+  unfolding readyToLoad admitted
+  same-ready = ap (λ (x : Parse Image). withCells (withoutFault x) count) reads
 
   part-length : length (take n words) ≤ 16384
   part-length = rw (e, length-take) (omega arith)
 
   taken : (m cells : ℕ) (tree : Image) → Serves whole (take n words) cells count params places ends tree
-      → readyTree (readImage whole (take n words)) count ≡ ready tree → m ≡ length (take n words)
+      → readyToLoad whole (take n words) count ≡ ready tree → m ≡ length (take n words)
       → (t : Image) × (Serves true (wordsOf image) cells count params places ends t) × (readyToLoad (wholeWords image) (wordsOf image) count ≡ ready t)
       × (take m words ≡ wordsOf image) × (m ≤ length words)
   taken m cells tree a b l =
       let read : readImage (wholeWords image) (wordsOf image) ≡ got tree (a .end) = sym reads ∙ a .read in
-      let i = image-read (wholeWords image) (wordsOf image) tree (a .end) read in
-      let spelled : take n words ≡ wordsOf image = e ∙ take-all 16384 (wordsOf image) (i .short) in (
+      let i = open-image (wholeWords image) (wordsOf image) tree (a .end) read in
+      let spelled : take n words ≡ wordsOf image = e ∙ take-all 16384 (wordsOf image) (length-limit i) in (
         tree,
         record {
           end = a .end;
-          read = ap (λ (z : Bool). readImage z (wordsOf image)) (sym (i .wholly)) ∙ read;
+          read = ap (λ (z : Bool). readImage z (wordsOf image)) (sym (i .isWhole)) ∙ read;
           own = a .own;
           enough = a .enough;
           few = a .few;

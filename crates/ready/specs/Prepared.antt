@@ -9,8 +9,7 @@ use Rattle.definitions.specs.Choice.{pick}
 use Rattle.definitions.specs.Bytes.{wordsOf}
 use Rattle.definitions.specs.Image.{Image, arraysOf, cellCount}
 use Rattle.definitions.specs.Reading.{got, readImage}
-use Rattle.definitions.specs.Requests.{ready, unready, readyTree}
-use Rattle.definitions.specs.Requests.{Ready as Readiness}
+use Rattle.definitions.specs.Requests.{ready, unready, readyToLoad, Ready as Readiness}
 use Rattle.reader.specs.Tables.{Tables}
 use Rattle.ready.specs.declared.Ready.{Ready}
 use Rattle.ready.specs.declared.Ready.the-variants.{Words, Unready}
@@ -34,9 +33,9 @@ pub record Serves (whole : Bool) (words : List ℕ) (cells count : ℕ) (params 
 
 -- the answer for words
 pub record Judged (r : Ready) (whole : Bool) (words : List ℕ) (count : ℕ) (params places ends : List ℕ) : Type 0 where
-  pub refusal : (k p : ℕ) → r ≡ Unready k p → (readyTree (readImage whole words) count ≡ unready k p) × (p ≤ length words)
+  pub refusal : (k p : ℕ) → r ≡ Unready k p → (readyToLoad whole words count ≡ unready k p) × (p ≤ length words)
   pub accepted : (n cells : ℕ) → r ≡ Words n cells
-      → (tree : Image) × (Serves whole words cells count params places ends tree) × (readyTree (readImage whole words) count ≡ ready tree) × (n ≡ length words)
+      → (tree : Image) × (Serves whole words cells count params places ends tree) × (readyToLoad whole words count ≡ ready tree) × (n ≡ length words)
 
 -- the answer for lent bytes, whose words are the first of the given ones
 pub record Prepared (r : Ready) (x : Readiness) (image words : List ℕ) (count : ℕ) (params places ends : List ℕ) : Type 0 where

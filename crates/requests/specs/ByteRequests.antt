@@ -1,21 +1,22 @@
 -- The definitions' requests on lent bytes, from what they do on the image's own cells. Assumes nothing.
-use mathlib.Core.Path.{_≡_, refl, sym, ap, _∙_}
-use mathlib.Core.Bool.{Bool, true, false, _&&_}
-use mathlib.Core.List.{List, [], _∷_, _++_}
-use Prim.Native.Nat.{ℕ, _+_, _*_, _/_, _≤_, _<_}
+use mathlib.Core.Path.{_≡_, sym, ap, _∙_}
+use mathlib.Core.List.{List, _++_}
+use Prim.Native.Nat.{ℕ, _*_, _≤_}
 use native.Mathlib.Omega.{arith}
-use lib.ListN.{length, take, drop, replicate, take-append-drop, length-replicate}
+use lib.ListN.{length, take, drop, take-append-drop, length-replicate}
 use lib.Seq.{length-take-le}
 use Rattle.definitions.specs.Bytes.{wordsOf, bytesOf, lent}
 use Rattle.definitions.specs.Image.{cellCount, Image}
-use Rattle.definitions.specs.Requests.{Ready, ready, unready, readyToLoad, readyToServe, Served, Called, served, servedCall, carriedOut, zeroed, load, clear, poke, peek, call, calledOn}
+use Rattle.definitions.specs.Requests.{ready, unready, readyToLoad, readyToServe, Served, Called, served, servedCall}
+use Rattle.definitions.specs.Requests.{carriedOut, zeroed, load, clear, poke, peek, call, calledOn}
 use Rattle.definitions.specs.Host.{wholeWords, onCells, loadBytes, clearBytes, pokeBytes, peekBytes, callBytes}
 use Rattle.definitions.specs.declared.Answer.{Answer}
 use Rattle.definitions.specs.declared.Answer.the-variants.{Refused}
 use Rattle.words.proofs.Laws.{Bytes, length-wordsOf, lent-wordsOf}
 use Rattle.requests.specs.OwnCells.{clearOn, pokeOn, peekOn}
 use Rattle.requests.specs.LentCells.{lent-front}
-use Rattle.requests.specs.SpareCells.{behind, behindCall, clear-spare, poke-spare, peek-spare, poke-long, peek-long, Spares, call-spare}
+use Rattle.requests.specs.SpareCells.{behind, behindCall, clear-spare, poke-spare, peek-spare, poke-long}
+use Rattle.requests.specs.SpareCells.{peek-long, Spares, call-spare}
 
 -- what the lent bytes are after a request that gives s on their first n words
 abbrev pub afterwards : List ℕ → ℕ → Served → Answer × List ℕ

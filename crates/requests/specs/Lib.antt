@@ -5,6 +5,4 @@ pub mod SpareRuns
 pub mod SpareCells
 pub mod LongImages
 pub mod Ready
-pub mod Arrays
-pub mod ReadImages
 pub mod ByteRequests

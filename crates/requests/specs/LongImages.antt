@@ -1,17 +1,18 @@
 -- An image of more words than any form admits is refused by its header alone: its first 16,384 words tell the answer.
 -- Assumes nothing.
-use mathlib.Core.Path.{_≡_, refl, sym, ap, _∙_}
+use mathlib.Core.Path.{_≡_, refl, sym, _∙_}
 use mathlib.Core.Bool.{Bool, true, false, _&&_}
-use mathlib.Core.List.{List, [], _∷_}
-use Prim.Native.Nat.{ℕ, _≤_, _<_}
+use mathlib.Core.List.{List}
+use Prim.Native.Nat.{ℕ, _<_}
 use native.Mathlib.Omega.{arith}
-use borrow.Author.Tests.{leb-true, leb-false, le-leb, lt-leb, ne-eqb}
-use lib.Dec.{leb, eqb}
-use lib.ListN.{length, getD, take, length-take}
+use borrow.Author.Tests.{leb-true, leb-false, lt-leb, ne-eqb}
+use lib.Dec.{leb}
+use lib.ListN.{length, getD, take}
 use lib.Seq.{take-all, length-take-le, getD-take}
 use Rattle.definitions.specs.Choice.{pick}
-use Rattle.definitions.specs.Image.{Image, formOf, headerWord, largestImage}
-use Rattle.definitions.specs.Reading.{Parse, got, refused, readRest, readImage}
+use Rattle.definitions.specs.Image.{formOf, headerWord, largestImage}
+use Rattle.definitions.specs.Reading.{refused, readImage}
+use Rattle.laws.specs.ImageIn.{largest-most}
 
 and-false : (a : Bool) → a && false ≡ false
 and-false true = refl
@@ -20,13 +21,6 @@ and-false false = refl
 and-true : (a : Bool) → a && true ≡ a
 and-true true = refl
 and-true false = refl
-
-pub largest-most : (form : ℕ) → largestImage form ≤ 16384
-largest-most form = go (eqb form 0)
-  where
-    go : (b : Bool) → pick b 4096 16384 ≤ 16384
-    go true = omega arith
-    go false = omega arith
 
 -- no image is both longer than a form admits and read
 beyond : (whole : Bool) (image : List ℕ) → 16384 < length image

@@ -1,51 +1,41 @@
 -- Whether a request can work on an image, by the checker's answer. Assumes nothing.
-use mathlib.Core.Path.{_≡_, refl, sym, ap, _∙_}
-use mathlib.Core.Bool.{Bool, true, false, _&&_}
-use mathlib.Core.List.{List, [], _∷_}
+use mathlib.Core.Path.{_≡_}
+use mathlib.Core.Bool.{Bool}
+use mathlib.Core.List.{List}
 use Prim.Native.Nat.{ℕ, _≤_, _<_}
-use native.Mathlib.Omega.{arith}
 use borrow.Author.Tests.{le-leb, lt-leb}
-use lib.Dec.{leb, eqb}
-use lib.ListN.{length}
+use lib.Dec.{leb}
 use Rattle.definitions.specs.Choice.{pick}
 use Rattle.definitions.specs.Image.{Image, cellCount}
 use Rattle.definitions.specs.Reading.{Parse, got, refused, readImage}
-use Rattle.definitions.specs.Checking.{faultOf, judged}
-use Rattle.definitions.specs.Requests.{Ready, ready, unready, readyTree}
-use Rattle.definitions.specs.declared.Checked.{Checked}
+use Rattle.definitions.specs.Checking.{admitted, verdict, checked}
+use Rattle.definitions.specs.Requests.{ready, unready, withCells, readyToLoad}
 use Rattle.definitions.specs.declared.Checked.the-variants.{Accepted, Refused}
+use Rattle.laws.specs.Parses.{got-same}
+use Rattle.laws.specs.Admitted.{admitted-read, accepted-admitted}
 
--- a refused image is refused alike by every request
-pub ready-refused : (x : Parse Image) (count n p : ℕ) → judged x ≡ Refused n p → readyTree x count ≡ unready n p
-unfolding judged readyTree
-ready-refused (refused k q) count n p e = cc
-ready-refused (got image m) count n p e = go (eqb (faultOf image .number) 0) e
-  where
-    go : (b : Bool) → pick b Accepted (Refused (faultOf image .number) (faultOf image .place)) ≡ Refused n p
-        → pick b (pick (leb (cellCount (image .arrays)) count) (ready image) (unready 17 0)) (unready (faultOf image .number) (faultOf image .place)) ≡ unready n p
-    go true q = cc
-    go false q = cc
+module _ (whole : Bool) (words : List ℕ) (count : ℕ) where
+  -- a refused image is refused alike by every request
+  pub ready-refused : (n p : ℕ) → checked whole words ≡ Refused n p → readyToLoad whole words count ≡ unready n p
+  unfolding checked verdict readyToLoad withCells
+  ready-refused n p = go (admitted whole words)
+    where
+      go : (x : Parse Image) → verdict x ≡ Refused n p → withCells x count ≡ unready n p
+      go (refused k q) e = cc
+      go (got image m) e = cc
 
--- an accepted image was read, and is ready where enough cells are lent
-pub ready-accepted : (x : Parse Image) (count : ℕ) (image : Image) (n : ℕ) → x ≡ got image n → judged x ≡ Accepted
-    → readyTree x count ≡ pick (leb (cellCount (image .arrays)) count) (ready image) (unready 17 0)
-unfolding judged readyTree
-ready-accepted (refused k q) count image n r e = cc
-ready-accepted (got tree m) count image n r e = go (eqb (faultOf tree .number) 0) e ∙ same
-  where
-    go : (b : Bool) → pick b Accepted (Refused (faultOf tree .number) (faultOf tree .place)) ≡ Accepted
-        → pick b (pick (leb (cellCount (tree .arrays)) count) (ready tree) (unready 17 0)) (unready (faultOf tree .number) (faultOf tree .place))
-        ≡ pick (leb (cellCount (tree .arrays)) count) (ready tree) (unready 17 0)
-    go true q = refl
-    go false q = cc
+  -- an accepted image was read, and is ready where enough cells are lent
+  pub ready-accepted : (image : Image) (n : ℕ) → readImage whole words ≡ got image n → checked whole words ≡ Accepted
+      → readyToLoad whole words count ≡ pick (leb (cellCount (image .arrays)) count) (ready image) (unready 17 0)
+  unfolding readyToLoad withCells
+  ready-accepted image n r e =
+      let (tree, m, a) = accepted-admitted whole words e in
+      let same : tree ≡ image = got-same (readImage whole words) tree image m n (admitted-read whole words tree m a .0) r .0 in
+      rw (a, same)
 
-    same : pick (leb (cellCount (tree .arrays)) count) (ready tree) (unready 17 0) ≡ pick (leb (cellCount (image .arrays)) count) (ready image) (unready 17 0)
-    same = let t : tree ≡ image = cc in rw t
-
-pub accepted-read : (x : Parse Image) → judged x ≡ Accepted → (image : Image) × (n : ℕ) × (x ≡ got image n)
-unfolding judged
-accepted-read (got image n) e = (image, n, refl)
-accepted-read (refused k q) e = absurd (let z : _≡_ {A = ℕ} 0 1 = cc in omega arith)
+pub accepted-read : (whole : Bool) (words : List ℕ) → checked whole words ≡ Accepted
+    → (image : Image) × (n : ℕ) × (readImage whole words ≡ got image n)
+accepted-read whole words e = let (tree, n, a) = accepted-admitted whole words e in (tree, n, admitted-read whole words tree n a .0)
 
 pub enough-cells : (image : Image) (count : ℕ) → cellCount (image .arrays) ≤ count
     → pick (leb (cellCount (image .arrays)) count) (ready image) (unready 17 0) ≡ ready image

@@ -1,19 +1,18 @@
 -- Cells past the image's own play no part in a request: what it gives is what it gives on the image's own cells, with the others behind them.
 -- Assumes nothing.
-use mathlib.Core.Path.{_≡_, refl, sym, ap, _∙_}
+use mathlib.Core.Path.{_≡_, refl, ap, _∙_}
 use mathlib.Core.Bool.{Bool, true, false, _&&_}
-use mathlib.Core.List.{List, [], _∷_, _++_}
-use Prim.Native.Nat.{ℕ, _+_, _≤_, _<_}
+use mathlib.Core.List.{List, [], _++_}
+use Prim.Native.Nat.{ℕ, _+_, _<_}
 use native.Mathlib.Omega.{arith}
 use borrow.Author.Tests.{ltb-true}
 use lib.Dec.{ltb, eqb}
-use lib.ListN.{length, getD, set, drop, replicate, length-set, length-replicate, List·getD-append}
+use lib.ListN.{length, getD, set, length-set, List·getD-append}
 use lib.Seq.{set-append-left, drop-at}
 use Rattle.definitions.specs.Choice.{pick}
 use Rattle.definitions.specs.Image.{arrayLength, cellCount, baseOf, Procedure, Image, procedureAt}
-use Rattle.definitions.specs.Running.{traceWords, Ran, on, halt, Given, gave, runProcedure}
+use Rattle.definitions.specs.Running.{traceWords, Ran, Given}
 use Rattle.definitions.specs.Requests.{Served, Called, carriedOut, zeroed, argumentValues, ended, calledOn}
-use Rattle.definitions.specs.declared.Answer.{Answer}
 use Rattle.definitions.specs.declared.Answer.the-variants.{Refused}
 use Rattle.requests.specs.Cells.{hasCellIn}
 use Rattle.requests.specs.OwnCells.{clearOn, pokeOn, peekOn}

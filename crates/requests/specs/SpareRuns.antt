@@ -1,9 +1,9 @@
 -- Cells past the image's own play no part in a run: it is the same run, and they stay behind the cells that it leaves.
 -- Assumes nothing.
-use mathlib.Core.Path.{_≡_, refl, sym, ap, _∙_}
+use mathlib.Core.Path.{_≡_, refl, ap}
 use mathlib.Core.Bool.{Bool, true, false}
 use mathlib.Core.List.{List, [], _∷_, _++_}
-use Prim.Native.Nat.{ℕ, zero, suc, _+_, _-_, _*_, _%_, _≤_, _<_}
+use Prim.Native.Nat.{ℕ, zero, suc, _+_, _-_, _<_}
 use native.Mathlib.Omega.{arith}
 use borrow.Author.Tests.{ltb-true}
 use lib.Dec.{ltb, eqb}
@@ -11,8 +11,13 @@ use lib.ListN.{length, getD, set, length-set, List·getD-append}
 use lib.Seq.{set-append-left}
 use Rattle.definitions.specs.Choice.{pick}
 use Rattle.definitions.specs.Arithmetic.{truth}
-use Rattle.definitions.specs.Image.{arrayLength, cellCount, baseOf, Expression, constant, boolean, variable, cell, unary, binary, select, Statement, assign, store, conditional, loop, return, call, Block, done, step, Procedure, procedureAt}
-use Rattle.definitions.specs.Running.{Trace, Evaluated, value, stop, Ran, on, halt, bind, within, andGo, emit, inArray, indexAt, operated, evaluate, evaluateAll, Outcome, next, back, Given, gave, Callee, Body, tick, after, passes, taken, received, runStatement, runBlock, frame, finish, runProcedure}
+use Rattle.definitions.specs.Image.{arrayLength, cellCount, baseOf, Expression, constant, boolean, variable, cell}
+use Rattle.definitions.specs.Image.{unary, binary, select, Statement, assign, store, conditional, loop, return, call}
+use Rattle.definitions.specs.Image.{Block, done, sequence, Procedure, procedureAt}
+use Rattle.definitions.specs.Running.{Trace, Evaluated, value, stop, Ran, on, halt, bind, within, andGo, emit, inArray}
+use Rattle.definitions.specs.Running.{indexAt, evaluate, evaluateAll, Outcome, next, back, Given, gave, Callee, Body}
+use Rattle.definitions.specs.Running.{tick, after, passes, taken, received, runStatement, runBlock, frame, finish}
+use Rattle.definitions.specs.Running.{runProcedure}
 
 -- an index within an array names one of the image's cells
 pub cell-among : (arrays : List ℕ) (a j : ℕ) → j < arrayLength (getD arrays a 0) → baseOf arrays a + j < cellCount arrays
@@ -193,7 +198,7 @@ module _ {T : Type 0} (C : Trace T) (budget : ℕ) (arrays rest : List ℕ) wher
       block-spare : (b : Block) (z : ℕ) (t : T) (vs cs : List ℕ) → length cs ≡ cellCount arrays
           → Both WideOutcome (runBlock C budget arrays K b z t vs cs) (runBlock C budget arrays K b z t vs (cs ++ rest))
       block-spare done z t vs cs h = both-on _ _ z t (wide-next vs cs h)
-      block-spare (step l s b) z t vs cs h =
+      block-spare (sequence l s b) z t vs cs h =
           both-tick budget l z t _ _
           (λ y u. both-go (statement-spare l s y u vs cs h)
           (λ o p w v r. after-spare (λ w v us ds. runBlock C budget arrays K b w v us ds) (λ w v us ds g. block-spare b w v us ds g) o p w v r))

@@ -11,6 +11,7 @@ use Rattle.definitions.specs.declared.Compiled.{Compiled}
 use Rattle.definitions.specs.declared.Compiled.the-variants.{Written, Refused as CompileRefused}
 use Rattle.definitions.specs.Bytes.{lent}
 use Rattle.definitions.specs.Requests.{Served, Called}
+use Rattle.laws.specs.Reads.{ReadRefusal}
 
 -- ---- Refusals, by number and place. `words` is the number of words of the image.
 
@@ -26,13 +27,9 @@ pub data Rule : ℕ → Type 0 where
   open-callee : Rule 12
   secret-branch : Rule 13
 
--- "1 empty, too long or not whole words. 2 [word] wrong kind or payload. 3 [length] ends early. 4 [first spare word]. 5 [word] too deep."
+-- 1 to 5 as reading has them, else a rule that is broken at one of the words
 pub data ImageRefusal (words : ℕ) : ℕ → ℕ → Type 0 where
-  no-image : ImageRefusal words 1 0
-  wrong-word : (p : ℕ) → p < words → ImageRefusal words 2 p
-  ends-early : ImageRefusal words 3 words
-  spare-word : (p : ℕ) → p < words → ImageRefusal words 4 p
-  too-deep : (p : ℕ) → p < words → ImageRefusal words 5 p
+  not-read : (n p : ℕ) → ReadRefusal words n p → ImageRefusal words n p
   broken-rule : (n p : ℕ) → Rule n → p < words → ImageRefusal words n p
 
 -- "Compile: 14 form 1 given, 15 result over form 1's limits, 16 output slice short."

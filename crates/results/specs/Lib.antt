@@ -1,11 +1,7 @@
--- Which answers there are
+pub mod Named
 pub mod Answers
--- Why there are no others
-pub mod ReadNumbers
-pub mod FaultNumbers
-pub mod ImageNumbers
-pub mod RunNumbers
-pub mod RequestNumbers
-pub mod ByteNumbers
--- Property 1
+pub mod Runs
+pub mod Images
+pub mod Requests
+pub mod HostRequests
 pub mod Results

@@ -11,9 +11,10 @@ use Rattle.definitions.specs.Requests.{load, clear, poke, peek, call}
 use Rattle.definitions.specs.Host.{loadBytes, clearBytes, pokeBytes, peekBytes, callBytes, checkBytes, compileBytes}
 use Rattle.words.proofs.Laws.{Bytes}
 use Rattle.results.specs.Answers.{LoadRefusal, RequestRefusal, Checks, Compiles, Serves, Calls, CallsBytes}
-use Rattle.results.specs.ImageNumbers.{checks-image, compiles-image}
-use Rattle.results.specs.RequestNumbers.{serves-load, serves-clear, serves-poke, serves-peek, calls-image}
-use Rattle.results.specs.ByteNumbers.{checks-bytes, compiles-bytes, loads-bytes, clears-bytes, pokes-bytes, peeks-bytes, calls-bytes}
+use Rattle.results.specs.Images.{checks-image, compiles-image}
+use Rattle.results.specs.Requests.{serves-load, serves-clear, serves-poke, serves-peek, calls-image}
+use Rattle.results.specs.HostRequests.{checks-bytes, compiles-bytes, loads-bytes, clears-bytes, pokes-bytes}
+use Rattle.results.specs.HostRequests.{peeks-bytes, calls-bytes}
 
 -- On words; `whole` tells whether the image came as whole words.
 pub record Results : Type 0 where

@@ -1,24 +1,22 @@
 -- The loop over a call's values: what is left of them, and what a turn makes of it. Assumes nothing.
-use mathlib.Core.Path.{_≡_, refl, sym, ap, _∙_}
+use mathlib.Core.Path.{_≡_, refl, _∙_}
 use mathlib.Core.Bool.{true}
-use mathlib.Core.List.{List, [], _∷_}
-use Prim.Native.Nat.{ℕ, zero, suc, _+_, _-_, _≤_, _<_}
+use mathlib.Core.List.{List, _∷_}
+use Prim.Native.Nat.{ℕ, suc, _+_, _-_, _≤_, _<_}
 use native.Mathlib.Numerals.{add-one}
 use native.Mathlib.Omega.{arith}
 use lib.ListN.{length, set}
 use lib.Seq.{sets}
 use Rattle.definitions.specs.Image.{Expression}
-use Rattle.definitions.specs.Reading.{Parse, got, readExpression, readArguments}
+use Rattle.definitions.specs.Reading.{got, readExpression}
 use Rattle.definitions.specs.Running.{Evaluated, value, stop, bind, evaluateAll}
-use Rattle.definitions.specs.Running.{evaluate as valueOf}
-use Rattle.opening.specs.Parses.{ok, ok-of}
-use Rattle.opening.specs.Expressions.{open-expression, open-no-argument, open-argument}
+use Rattle.laws.specs.Parses.{ok, ok-of}
+use Rattle.laws.specs.ExpressionInversion.{open-expression, open-no-argument, open-argument}
 use Rattle.reader.specs.Answers.{readArgumentsAt}
 use Rattle.tracing.specs.declared.Value.{Value}
 use Rattle.tracing.specs.declared.Value.the-variants.{Got, Stop}
 use Rattle.tracing.specs.Log.{Log, log, byteTrace}
 use Rattle.tracing.specs.Answers.{evaluation}
-use Rattle.evaluator.specs.Program.{programOf}
 use Rattle.evaluator.specs.Evaluation.{Readable, evaluateAt}
 use Rattle.evaluator.specs.Results.{tree-got, tree-stop}
 use Rattle.runner.specs.Known.{ArgumentsRead}

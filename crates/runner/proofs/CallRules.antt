@@ -1,36 +1,33 @@
 -- What each way out of a call gives, and what each call in it asks. Assumes nothing.
 use mathlib.Core.Path.{_≡_, refl, sym, ap, _∙_}
 use mathlib.Core.Bool.{Bool, true, false}
-use mathlib.Core.List.{List, [], _∷_, _++_}
-use Prim.Native.Nat.{ℕ, zero, suc, _+_, _-_, _*_, _≤_, _<_}
-use native.Mathlib.Nat.{suc-sub-suc, sub-zero, zero-sub, zero-add}
+use mathlib.Core.List.{List, [], _∷_}
+use Prim.Native.Nat.{ℕ, zero, suc, _+_, _-_, _≤_, _<_}
 use native.Mathlib.Omega.{arith}
-use borrow.Author.Tests.{eqb-true, eqb-false, eq-eqb, ne-eqb}
 use lib.Dec.{eqb}
-use lib.ListN.{length, getD, set, drop, replicate, length-replicate}
-use lib.Seq.{sets, sets-eq}
+use lib.ListN.{length, getD, set, replicate}
+use lib.Seq.{sets}
 use Rattle.definitions.specs.Choice.{pick}
-use Rattle.definitions.specs.Image.{opOf, calledOf, resultOf, largestLevel, formOf, Expression, Statement, call, Block, Procedure, procedureAt, Image}
-use Rattle.definitions.specs.Reading.{Parse, got, refused, readExpression, readArguments, readStatement, readBlock}
-use Rattle.definitions.specs.Running.{Trace, Evaluated, value, stop, bind, within, emit, evaluateAll, on, halt, andGo, Outcome, next, back, Given, gave, Callee, received, runStatement, runBlock, frame, finish, runProcedure}
-use Rattle.definitions.specs.Running.{Ran as Run}
-use Rattle.definitions.specs.Running.{evaluate as valueOf}
-use Rattle.opening.specs.Parses.{ok, ok-of, got-ok, endOf, end-of}
-use Rattle.opening.specs.Expressions.{open-argument, open-no-argument}
-use Rattle.opening.specs.Statements.{open-block, open-call}
+use Rattle.definitions.specs.Image.{opOf, calledOf, resultOf, largestLevel, formOf, Expression, call, procedureAt}
+use Rattle.definitions.specs.Reading.{got, readExpression, readArguments, readStatement, readBlock}
+use Rattle.definitions.specs.Running.{Evaluated, value, stop, bind, emit, evaluateAll, on, halt, andGo, Outcome, gave}
+use Rattle.definitions.specs.Running.{received, runStatement, runBlock, frame, finish, Ran as Run, evaluate as valueOf}
+use Rattle.laws.specs.Parses.{ok-of}
+use Rattle.laws.specs.ExpressionInversion.{open-argument, open-no-argument}
+use Rattle.laws.specs.StatementInversion.{open-call}
 use Rattle.reader.specs.Answers.{readArgumentsAt}
 use Rattle.tracing.specs.declared.Value.{Value}
 use Rattle.tracing.specs.declared.Value.the-variants.{Got, Stop}
 use Rattle.tracing.specs.Log.{Log, log, byteTrace}
 use Rattle.tracing.specs.Answers.{evaluation, until}
-use Rattle.evaluator.specs.Program.{programOf}
+use Rattle.laws.specs.ImageIn.{imageIn}
 use Rattle.evaluator.specs.Results.{until-got, until-stop}
 use Rattle.runner.specs.declared.Ran.{Ran}
 use Rattle.runner.specs.declared.Ran.the-variants.{On, Back, Stop as Halt}
 use Rattle.runner.specs.Callees.{callee-at, frame-is}
-use Rattle.runner.specs.Known.{paramsIn, Callable, Known, StatementRead, BlockRead, ArgumentsRead}
-use Rattle.runner.specs.Runs.{Went, finished, placed, ending, callees, statementAt, blockAt, Framed, framed, framing, argumentsAt}
-use Rattle.runner.proofs.StatementRules.{statement-place}
+use Rattle.runner.specs.Known.{paramsIn, Known, StatementRead, BlockRead, ArgumentsRead}
+use Rattle.runner.specs.Runs.{finished, placed, ending, callees, statementAt, blockAt, Framed, framed, framing}
+use Rattle.runner.specs.Runs.{argumentsAt}
 use Rattle.runner.proofs.BlockRules.{block-on, block-returned, block-halt}
 use Rattle.runner.proofs.BranchRules.{block-read}
 
@@ -125,7 +122,7 @@ module _ (l : ℕ) (image tables ends : List ℕ) (me at : ℕ) (g : StatementRe
   callee-fine top body et eb =
       let c = k .callable (calledOf (getD image at 0)) callee-below in (
         rw (et, eb) (block-read (largestLevel (formOf (getD image 0 0))) image tables (calledOf (getD image at 0)) (getD tables (16 + calledOf (getD image at 0)) 0)
-            (procedureAt (programOf image .procedures) (calledOf (getD image at 0)) .body) (c .after) (c .body)),
+            (procedureAt (imageIn image .procedures) (calledOf (getD image at 0)) .body) (c .after) (c .body)),
         callee-known,
       )
 
@@ -133,121 +130,121 @@ module _ (l : ℕ) (image tables ends : List ℕ) (me at : ℕ) (g : StatementRe
 
   module _ (budget : ℕ) (vs cs slice : List ℕ) (used z count : ℕ) (e : count ≡ getD (paramsIn tables) (calledOf (getD image at 0)) 0)
       (r : Value) (fr slice1 : List ℕ)
-      (d : framing r fr slice1 ≡ argumentsAt (programOf image .arrays) vs cs (log used slice) (replicate 255 0) 0 (readArgumentsAt count (l - 1) image (at + 1))) where
+      (d : framing r fr slice1 ≡ argumentsAt (imageIn image .arrays) vs cs (log used slice) (replicate 255 0) 0 (readArgumentsAt count (l - 1) image (at + 1))) where
     at-values : (es : List Expression) (n : ℕ)
         → readArguments (getD (paramsIn tables) (calledOf (getD image at 0)) 0) (λ a. readExpression (l - 1) image a) (at + 1) ≡ got es n
-        → framing r fr slice1 ≡ bind (evaluateAll byteTrace (programOf image .arrays) es vs cs (log used slice)) (λ ws t. value (framed (sets (replicate 255 0) 0 ws) n) t)
+        → framing r fr slice1 ≡ bind (evaluateAll byteTrace (imageIn image .arrays) es vs cs (log used slice)) (λ ws t. value (framed (sets (replicate 255 0) 0 ws) n) t)
     unfolding argumentsAt readArgumentsAt
     at-values es n w = rw (e, w) at d
 
     pub call-stopped : (vs1 cs1 : List ℕ) (j q u : ℕ) → r ≡ Stop j q u
-        → finished (Halt j q u z) vs1 cs1 slice1 ≡ statementAt budget (programOf image) me at z (log used slice) vs cs (readStatement l (paramsIn tables) me image at)
+        → finished (Halt j q u z) vs1 cs1 slice1 ≡ statementAt budget (imageIn image) me at z (log used slice) vs cs (readStatement l (paramsIn tables) me image at)
     unfolding finished statementAt ending runStatement runBlock
     call-stopped vs1 cs1 j q u s = let (es, n, b, w, p) = open-call l (paramsIn tables) me image at (g .read) h in go es n w p
       where
         go : (es : List Expression) (n : ℕ)
             → readArguments (getD (paramsIn tables) (calledOf (getD image at 0)) 0) (λ a. readExpression (l - 1) image a) (at + 1) ≡ got es n
             → readStatement l (paramsIn tables) me image at ≡ got (call (calledOf (getD image at 0)) (resultOf (getD image at 0)) es) n
-            → finished (Halt j q u z) vs1 cs1 slice1 ≡ statementAt budget (programOf image) me at z (log used slice) vs cs (readStatement l (paramsIn tables) me image at)
+            → finished (Halt j q u z) vs1 cs1 slice1 ≡ statementAt budget (imageIn image) me at z (log used slice) vs cs (readStatement l (paramsIn tables) me image at)
         go es n w p =
-            rw (p, framing-stop r fr slice1 (evaluateAll byteTrace (programOf image .arrays) es vs cs (log used slice)) (replicate 255 0) n j q u (at-values es n w) s)
+            rw (p, framing-stop r fr slice1 (evaluateAll byteTrace (imageIn image .arrays) es vs cs (log used slice)) (replicate 255 0) n j q u (at-values es n w) s)
 
     module _ (v n u : ℕ) (s : r ≡ Got v n u) where
       -- the values, in the callee's frame
-      values : (es : List Expression) × (ws : List ℕ) × (evaluateAll byteTrace (programOf image .arrays) es vs cs (log used slice) ≡ value ws (log u slice1))
+      values : (es : List Expression) × (ws : List ℕ) × (evaluateAll byteTrace (imageIn image .arrays) es vs cs (log used slice) ≡ value ws (log u slice1))
           × (fr ≡ frame ws) × (readStatement l (paramsIn tables) me image at ≡ got (call (calledOf (getD image at 0)) (resultOf (getD image at 0)) es) n)
       values = let (es, o, b, w, p) = open-call l (paramsIn tables) me image at (g .read) h in go es o w p
         where
           go : (es : List Expression) (o : ℕ)
               → readArguments (getD (paramsIn tables) (calledOf (getD image at 0)) 0) (λ a. readExpression (l - 1) image a) (at + 1) ≡ got es o
               → readStatement l (paramsIn tables) me image at ≡ got (call (calledOf (getD image at 0)) (resultOf (getD image at 0)) es) o
-              → (es : List Expression) × (ws : List ℕ) × (evaluateAll byteTrace (programOf image .arrays) es vs cs (log used slice) ≡ value ws (log u slice1))
+              → (es : List Expression) × (ws : List ℕ) × (evaluateAll byteTrace (imageIn image .arrays) es vs cs (log used slice) ≡ value ws (log u slice1))
               × (fr ≡ frame ws) × (readStatement l (paramsIn tables) me image at ≡ got (call (calledOf (getD image at 0)) (resultOf (getD image at 0)) es) n)
           go es o w p =
-              let (ws, x, f, q) = framing-got r fr slice1 (evaluateAll byteTrace (programOf image .arrays) es vs cs (log used slice)) (replicate 255 0) o v n u (at-values es o w) s in
-              let a = value-length (programOf image .arrays) vs cs es (log used slice) ws (log u slice1) x in
+              let (ws, x, f, q) = framing-got r fr slice1 (evaluateAll byteTrace (imageIn image .arrays) es vs cs (log used slice)) (replicate 255 0) o v n u (at-values es o w) s in
+              let a = value-length (imageIn image .arrays) vs cs es (log used slice) ws (log u slice1) x in
               let b = read-length (getD (paramsIn tables) (calledOf (getD image at 0)) 0) (l - 1) image (at + 1) es o w in
               let few = k .callable (calledOf (getD image at 0)) callee-below .few in
               (es, ws, x, f ∙ frame-is ws (omega arith), p ∙ ap (λ (i : ℕ). got (call (calledOf (getD image at 0)) (resultOf (getD image at 0)) es) i) q)
 
       module _ (r2 : Value) (slice2 : List ℕ) (d2 : evaluation r2 slice2 ≡ until n (emit byteTrace 7 at (calledOf (getD image at 0)) (log u slice1))) where
         pub call-full : (vs1 cs1 : List ℕ) (j q u2 : ℕ) → r2 ≡ Stop j q u2
-            → finished (Halt j q u2 z) vs1 cs1 slice2 ≡ statementAt budget (programOf image) me at z (log used slice) vs cs (readStatement l (paramsIn tables) me image at)
+            → finished (Halt j q u2 z) vs1 cs1 slice2 ≡ statementAt budget (imageIn image) me at z (log used slice) vs cs (readStatement l (paramsIn tables) me image at)
         unfolding finished statementAt ending runStatement runBlock
         call-full vs1 cs1 j q u2 s2 = let (es, ws, x, f, p) = values in go es ws x p
           where
-            go : (es : List Expression) (ws : List ℕ) → evaluateAll byteTrace (programOf image .arrays) es vs cs (log used slice) ≡ value ws (log u slice1)
+            go : (es : List Expression) (ws : List ℕ) → evaluateAll byteTrace (imageIn image .arrays) es vs cs (log used slice) ≡ value ws (log u slice1)
                 → readStatement l (paramsIn tables) me image at ≡ got (call (calledOf (getD image at 0)) (resultOf (getD image at 0)) es) n
-                → finished (Halt j q u2 z) vs1 cs1 slice2 ≡ statementAt budget (programOf image) me at z (log used slice) vs cs (readStatement l (paramsIn tables) me image at)
+                → finished (Halt j q u2 z) vs1 cs1 slice2 ≡ statementAt budget (imageIn image) me at z (log used slice) vs cs (readStatement l (paramsIn tables) me image at)
             go es ws x p = rw (p, x, until-stop r2 slice2 n (emit byteTrace 7 at (calledOf (getD image at 0)) (log u slice1)) j q u2 d2 s2)
 
         module _ (b m u2 : ℕ) (s2 : r2 ≡ Got b m u2) (top body : ℕ) (et : top ≡ largestLevel (formOf (getD image 0 0)))
             (eb : body ≡ getD tables (16 + calledOf (getD image at 0)) 0) (r3 : Ran) (fr2 cs2 slice3 : List ℕ)
             (d3 : finished r3 fr2 cs2 slice3
-            ≡ blockAt budget (programOf image) (calledOf (getD image at 0)) z (log u2 slice2) fr cs (readBlock top (paramsIn tables) (calledOf (getD image at 0)) image body)) where
+            ≡ blockAt budget (imageIn image) (calledOf (getD image at 0)) z (log u2 slice2) fr cs (readBlock top (paramsIn tables) (calledOf (getD image at 0)) image body)) where
           -- the callee's run over its frame
           callee-run : (ws : List ℕ) → fr ≡ frame ws
               → finished r3 fr2 cs2 slice3
-              ≡ blockAt budget (programOf image) (calledOf (getD image at 0)) z (log u2 slice2) (frame ws) cs
-              (got (procedureAt (programOf image .procedures) (calledOf (getD image at 0)) .body) (k .callable (calledOf (getD image at 0)) callee-below .after))
+              ≡ blockAt budget (imageIn image) (calledOf (getD image at 0)) z (log u2 slice2) (frame ws) cs
+              (got (procedureAt (imageIn image .procedures) (calledOf (getD image at 0)) .body) (k .callable (calledOf (getD image at 0)) callee-below .after))
           callee-run ws f =
-              d3 ∙ ap (λ (q : List ℕ). blockAt budget (programOf image) (calledOf (getD image at 0)) z (log u2 slice2) q cs (readBlock top (paramsIn tables) (calledOf (getD image at 0)) image body)) f
-              ∙ ap (blockAt budget (programOf image) (calledOf (getD image at 0)) z (log u2 slice2) (frame ws) cs)
+              d3 ∙ ap (λ (q : List ℕ). blockAt budget (imageIn image) (calledOf (getD image at 0)) z (log u2 slice2) q cs (readBlock top (paramsIn tables) (calledOf (getD image at 0)) image body)) f
+              ∙ ap (blockAt budget (imageIn image) (calledOf (getD image at 0)) z (log u2 slice2) (frame ws) cs)
               (rw (et, eb) (k .callable (calledOf (getD image at 0)) callee-below .body))
 
           module _ (ws : List ℕ) (f : fr ≡ frame ws) where
             halted : (j q u3 z3 : ℕ) → r3 ≡ Halt j q u3 z3
-                → callees budget (programOf image) me (calledOf (getD image at 0)) ws z (log u2 slice2) cs ≡ halt j q z3 (log u3 slice3)
+                → callees budget (imageIn image) me (calledOf (getD image at 0)) ws z (log u2 slice2) cs ≡ halt j q z3 (log u3 slice3)
             halted j q u3 z3 s3 =
-                callee-at byteTrace budget (programOf image .arrays) (programOf image .procedures) (calledOf (getD image at 0)) ws z (log u2 slice2) cs me callee-below
+                callee-at byteTrace budget (imageIn image .arrays) (imageIn image .procedures) (calledOf (getD image at 0)) ws z (log u2 slice2) cs me callee-below
                 ∙ ap (λ (y : Run Log Outcome). andGo y finish)
-                (block-halt budget (programOf image) (calledOf (getD image at 0)) z (log u2 slice2) (frame ws) cs _ _ _ refl r3 fr2 cs2 slice3 (callee-run ws f) j q u3 z3 s3)
+                (block-halt budget (imageIn image) (calledOf (getD image at 0)) z (log u2 slice2) (frame ws) cs _ _ _ refl r3 fr2 cs2 slice3 (callee-run ws f) j q u3 z3 s3)
 
             gave-back : (x u3 z3 : ℕ) → r3 ≡ Back x u3 z3
-                → callees budget (programOf image) me (calledOf (getD image at 0)) ws z (log u2 slice2) cs ≡ on (gave x cs2) z3 (log u3 slice3)
+                → callees budget (imageIn image) me (calledOf (getD image at 0)) ws z (log u2 slice2) cs ≡ on (gave x cs2) z3 (log u3 slice3)
             unfolding finish
             gave-back x u3 z3 s3 =
-                callee-at byteTrace budget (programOf image .arrays) (programOf image .procedures) (calledOf (getD image at 0)) ws z (log u2 slice2) cs me callee-below
+                callee-at byteTrace budget (imageIn image .arrays) (imageIn image .procedures) (calledOf (getD image at 0)) ws z (log u2 slice2) cs me callee-below
                 ∙ ap (λ (y : Run Log Outcome). andGo y finish)
-                (block-returned budget (programOf image) (calledOf (getD image at 0)) z (log u2 slice2) (frame ws) cs _ _ _ refl r3 fr2 cs2 slice3 (callee-run ws f) x u3 z3 s3)
+                (block-returned budget (imageIn image) (calledOf (getD image at 0)) z (log u2 slice2) (frame ws) cs _ _ _ refl r3 fr2 cs2 slice3 (callee-run ws f) x u3 z3 s3)
 
             fell-off : (c u3 z3 : ℕ) → r3 ≡ On c u3 z3
-                → callees budget (programOf image) me (calledOf (getD image at 0)) ws z (log u2 slice2) cs ≡ on (gave 0 cs2) z3 (log u3 slice3)
+                → callees budget (imageIn image) me (calledOf (getD image at 0)) ws z (log u2 slice2) cs ≡ on (gave 0 cs2) z3 (log u3 slice3)
             unfolding finish
             fell-off c u3 z3 s3 =
-                callee-at byteTrace budget (programOf image .arrays) (programOf image .procedures) (calledOf (getD image at 0)) ws z (log u2 slice2) cs me callee-below
+                callee-at byteTrace budget (imageIn image .arrays) (imageIn image .procedures) (calledOf (getD image at 0)) ws z (log u2 slice2) cs me callee-below
                 ∙ ap (λ (y : Run Log Outcome). andGo y finish)
-                (block-on budget (programOf image) (calledOf (getD image at 0)) z (log u2 slice2) (frame ws) cs _ _ _ refl r3 fr2 cs2 slice3 (callee-run ws f) c u3 z3 s3 .0)
+                (block-on budget (imageIn image) (calledOf (getD image at 0)) z (log u2 slice2) (frame ws) cs _ _ _ refl r3 fr2 cs2 slice3 (callee-run ws f) c u3 z3 s3 .0)
 
           noted : (emit byteTrace 7 at (calledOf (getD image at 0)) (log u slice1) ≡ value b (log u2 slice2)) × (n ≡ m)
           noted = until-got r2 slice2 n (emit byteTrace 7 at (calledOf (getD image at 0)) (log u slice1)) b m u2 d2 s2
 
           pub callee-stopped : (vs1 : List ℕ) (j q u3 z3 : ℕ) → r3 ≡ Halt j q u3 z3
-              → finished (Halt j q u3 z3) vs1 cs2 slice3 ≡ statementAt budget (programOf image) me at z (log used slice) vs cs (readStatement l (paramsIn tables) me image at)
+              → finished (Halt j q u3 z3) vs1 cs2 slice3 ≡ statementAt budget (imageIn image) me at z (log used slice) vs cs (readStatement l (paramsIn tables) me image at)
           unfolding finished statementAt ending runStatement runBlock
           callee-stopped vs1 j q u3 z3 s3 = let (es, ws, x, f, p) = values in go es ws x f p
             where
-              go : (es : List Expression) (ws : List ℕ) → evaluateAll byteTrace (programOf image .arrays) es vs cs (log used slice) ≡ value ws (log u slice1) → fr ≡ frame ws
+              go : (es : List Expression) (ws : List ℕ) → evaluateAll byteTrace (imageIn image .arrays) es vs cs (log used slice) ≡ value ws (log u slice1) → fr ≡ frame ws
                   → readStatement l (paramsIn tables) me image at ≡ got (call (calledOf (getD image at 0)) (resultOf (getD image at 0)) es) n
-                  → finished (Halt j q u3 z3) vs1 cs2 slice3 ≡ statementAt budget (programOf image) me at z (log used slice) vs cs (readStatement l (paramsIn tables) me image at)
+                  → finished (Halt j q u3 z3) vs1 cs2 slice3 ≡ statementAt budget (imageIn image) me at z (log used slice) vs cs (readStatement l (paramsIn tables) me image at)
               go es ws x f p = let (y, i) = noted in rw (p, x, y, halted ws f j q u3 z3 s3)
 
           pub callee-returned : (vs1 : List ℕ) (x u3 z3 : ℕ) → r3 ≡ Back x u3 z3 → vs1 ≡ set vs (resultOf (getD image at 0)) x
-              → finished (On m u3 z3) vs1 cs2 slice3 ≡ statementAt budget (programOf image) me at z (log used slice) vs cs (readStatement l (paramsIn tables) me image at)
+              → finished (On m u3 z3) vs1 cs2 slice3 ≡ statementAt budget (imageIn image) me at z (log used slice) vs cs (readStatement l (paramsIn tables) me image at)
           unfolding finished statementAt ending placed runStatement runBlock received
           callee-returned vs1 a u3 z3 s3 o = let (es, ws, x, f, p) = values in go es ws x f p
             where
-              go : (es : List Expression) (ws : List ℕ) → evaluateAll byteTrace (programOf image .arrays) es vs cs (log used slice) ≡ value ws (log u slice1) → fr ≡ frame ws
+              go : (es : List Expression) (ws : List ℕ) → evaluateAll byteTrace (imageIn image .arrays) es vs cs (log used slice) ≡ value ws (log u slice1) → fr ≡ frame ws
                   → readStatement l (paramsIn tables) me image at ≡ got (call (calledOf (getD image at 0)) (resultOf (getD image at 0)) es) n
-                  → finished (On m u3 z3) vs1 cs2 slice3 ≡ statementAt budget (programOf image) me at z (log used slice) vs cs (readStatement l (paramsIn tables) me image at)
+                  → finished (On m u3 z3) vs1 cs2 slice3 ≡ statementAt budget (imageIn image) me at z (log used slice) vs cs (readStatement l (paramsIn tables) me image at)
               go es ws x f p = let (y, i) = noted in rw (p, x, y, gave-back ws f a u3 z3 s3, i, o)
 
           pub callee-fell : (vs1 : List ℕ) (c u3 z3 : ℕ) → r3 ≡ On c u3 z3 → vs1 ≡ set vs (resultOf (getD image at 0)) 0
-              → finished (On m u3 z3) vs1 cs2 slice3 ≡ statementAt budget (programOf image) me at z (log used slice) vs cs (readStatement l (paramsIn tables) me image at)
+              → finished (On m u3 z3) vs1 cs2 slice3 ≡ statementAt budget (imageIn image) me at z (log used slice) vs cs (readStatement l (paramsIn tables) me image at)
           unfolding finished statementAt ending placed runStatement runBlock received
           callee-fell vs1 c u3 z3 s3 o = let (es, ws, x, f, p) = values in go es ws x f p
             where
-              go : (es : List Expression) (ws : List ℕ) → evaluateAll byteTrace (programOf image .arrays) es vs cs (log used slice) ≡ value ws (log u slice1) → fr ≡ frame ws
+              go : (es : List Expression) (ws : List ℕ) → evaluateAll byteTrace (imageIn image .arrays) es vs cs (log used slice) ≡ value ws (log u slice1) → fr ≡ frame ws
                   → readStatement l (paramsIn tables) me image at ≡ got (call (calledOf (getD image at 0)) (resultOf (getD image at 0)) es) n
-                  → finished (On m u3 z3) vs1 cs2 slice3 ≡ statementAt budget (programOf image) me at z (log used slice) vs cs (readStatement l (paramsIn tables) me image at)
+                  → finished (On m u3 z3) vs1 cs2 slice3 ≡ statementAt budget (imageIn image) me at z (log used slice) vs cs (readStatement l (paramsIn tables) me image at)
               go es ws x f p = let (y, i) = noted in rw (p, x, y, fell-off ws f c u3 z3 s3, i, o)

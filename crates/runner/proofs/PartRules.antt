@@ -1,32 +1,30 @@
 -- What each way out of the parts of statements gives, and what each call in them asks. Assumes nothing.
-use mathlib.Core.Path.{_≡_, refl, sym, ap, _∙_}
+use mathlib.Core.Path.{_≡_, sym, ap, _∙_}
 use mathlib.Core.Bool.{true}
 use mathlib.Core.List.{List}
-use Prim.Native.Nat.{ℕ, _+_, _-_, _≤_, _<_}
+use Prim.Native.Nat.{ℕ, _+_, _-_, _≤_}
 use native.Mathlib.Omega.{arith}
 use borrow.Author.Tests.{ne-eqb}
 use lib.ListN.{length, getD, set, take, drop, length-drop}
 use lib.Seq.{set-out, take-all, getD-drop}
 use Rattle.definitions.specs.Arithmetic.{truth}
-use Rattle.definitions.specs.Image.{Expression, Block}
-use Rattle.definitions.specs.Reading.{Parse, got, readExpression, readBlock}
-use Rattle.definitions.specs.Running.{Evaluated, value, stop, bind, emit}
-use Rattle.definitions.specs.Running.{evaluate as valueOf}
-use Rattle.opening.specs.Parses.{ok, ok-of, got-ok, endOf, end-of}
-use Rattle.opening.specs.Expressions.{open-expression}
+use Rattle.definitions.specs.Image.{Expression}
+use Rattle.definitions.specs.Reading.{got, readExpression, readBlock}
+use Rattle.definitions.specs.Running.{value, emit, evaluate as valueOf}
+use Rattle.laws.specs.Parses.{ok, ok-of, got-ok, endOf, end-of}
+use Rattle.laws.specs.ExpressionInversion.{open-expression}
 use Rattle.reader.specs.Tables.{BlockEnds}
 use Rattle.tracing.specs.declared.Value.{Value}
 use Rattle.tracing.specs.declared.Value.the-variants.{Got, Stop}
-use Rattle.tracing.specs.Log.{Log, log, byteTrace}
+use Rattle.tracing.specs.Log.{log, byteTrace}
 use Rattle.tracing.specs.Answers.{evaluation, until}
-use Rattle.evaluator.specs.Program.{programOf}
 use Rattle.evaluator.specs.Cells.{numbered}
 use Rattle.evaluator.specs.Evaluation.{Readable, evaluateAt}
 use Rattle.evaluator.specs.Results.{until-got, until-stop, tree-got, tree-stop}
 use Rattle.runner.specs.declared.Bounds.{Bounds}
 use Rattle.runner.specs.declared.Bounds.the-variants.{Both, Stop as NoBounds}
 use Rattle.runner.specs.Known.{PairRead}
-use Rattle.runner.specs.Runs.{branchAt, slotAt, bounded, rangeNoted, range, bounds, boundsAt}
+use Rattle.runner.specs.Runs.{branchAt, slotAt, bounded, rangeNoted, bounds, boundsAt}
 
 pub put-past : (list : List ℕ) (i v : ℕ) → length list ≤ i → list ≡ set list i v
 put-past list i v h = sym (set-out list i v h)

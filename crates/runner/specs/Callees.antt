@@ -1,8 +1,8 @@
 -- A procedure's run by its number among the first n, and its frame. Assumes nothing.
 use mathlib.Core.Path.{_≡_, refl, sym, ap, _∙_}
 use mathlib.Core.Bool.{Bool, true, false}
-use mathlib.Core.List.{List, [], _∷_, _++_}
-use Prim.Native.Nat.{ℕ, zero, suc, _+_, _-_, _≤_, _<_}
+use mathlib.Core.List.{List, _++_}
+use Prim.Native.Nat.{ℕ, zero, suc, _-_, _≤_, _<_}
 use native.Mathlib.Nat.{suc-sub-suc, sub-zero, zero-sub, zero-add}
 use native.Mathlib.Omega.{arith}
 use borrow.Author.Tests.{eqb-true, eqb-false}
@@ -11,8 +11,7 @@ use lib.ListN.{length, drop, replicate, length-replicate}
 use lib.Seq.{sets, sets-eq}
 use Rattle.definitions.specs.Choice.{pick}
 use Rattle.definitions.specs.Image.{Procedure, procedureAt}
-use Rattle.definitions.specs.Running.{Trace, andGo, Given, runBlock, frame, finish, runProcedure}
-use Rattle.definitions.specs.Running.{Ran as Run}
+use Rattle.definitions.specs.Running.{Trace, andGo, Given, runBlock, frame, finish, runProcedure, Ran as Run}
 
 module _ {T : Type 0} (C : Trace T) (budget : ℕ) (arrays : List ℕ) (ps : List Procedure) (f : ℕ) (ws : List ℕ) (z : ℕ) (t : T) (cs : List ℕ) where
   pub callee-at : (n : ℕ) → f < n → runProcedure C budget arrays ps n f ws z t cs

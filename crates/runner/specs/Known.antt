@@ -5,12 +5,12 @@ use mathlib.Core.Bool.{true}
 use mathlib.Core.List.{List}
 use Prim.Native.Nat.{ℕ, _+_, _≤_, _<_}
 use lib.ListN.{length, getD, drop}
-use Rattle.definitions.specs.Image.{largestLevel, formOf, Image, procedureAt}
+use Rattle.definitions.specs.Image.{largestLevel, formOf, procedureAt}
 use Rattle.definitions.specs.Reading.{got, readExpression, readStatement, readBlock}
-use Rattle.opening.specs.Parses.{ok, endOf}
+use Rattle.laws.specs.Parses.{ok, endOf}
 use Rattle.reader.specs.Answers.{readArgumentsAt}
 use Rattle.reader.specs.Tables.{BlockEnds}
-use Rattle.evaluator.specs.Program.{programOf}
+use Rattle.laws.specs.ImageIn.{imageIn}
 use Rattle.evaluator.specs.Cells.{Layout}
 use Rattle.evaluator.specs.Evaluation.{Readable}
 
@@ -22,14 +22,14 @@ paramsIn tables = drop 48 tables
 pub record Callable (image tables : List ℕ) (g : ℕ) : Type 0 where
   pub few : getD (paramsIn tables) g 0 ≤ 255
   pub after : ℕ
-  pub body : readBlock (largestLevel (formOf (getD image 0 0))) (paramsIn tables) g image (getD tables (16 + g) 0) ≡ got (procedureAt (programOf image .procedures) g .body) after
+  pub body : readBlock (largestLevel (formOf (getD image 0 0))) (paramsIn tables) g image (getD tables (16 + g) 0) ≡ got (procedureAt (imageIn image .procedures) g .body) after
 
 -- the tables fit the image, for what the body of procedure `me` needs
 pub record Known (image tables ends : List ℕ) (me : ℕ) : Type 0 where
   pub small : length image ≤ 268435456
   pub long : 80 ≤ length tables
   pub low : me ≤ 32
-  pub layout : Layout (programOf image .arrays) tables
+  pub layout : Layout (imageIn image .arrays) tables
   pub callable : (g : ℕ) → g < me → Callable image tables g
   pub blockEnds : BlockEnds image (paramsIn tables) ends
 
@@ -39,7 +39,7 @@ pub record StatementRead (level : ℕ) (image tables : List ℕ) (me at : ℕ) :
   pub within : at < length image
   pub small : length image ≤ 268435456
   pub read : ok (readStatement level (paramsIn tables) me image at) ≡ true
-  pub layout : Layout (programOf image .arrays) tables
+  pub layout : Layout (imageIn image .arrays) tables
 
 -- a block that was read
 pub record BlockRead (level : ℕ) (image tables : List ℕ) (me at : ℕ) : Type 0 where
@@ -51,7 +51,7 @@ pub record BlockRead (level : ℕ) (image tables : List ℕ) (me at : ℕ) : Typ
 pub record ArgumentsRead (count level : ℕ) (image tables : List ℕ) (at : ℕ) : Type 0 where
   pub small : length image ≤ 268435456
   pub read : ok (readArgumentsAt count level image at) ≡ true
-  pub layout : Layout (programOf image .arrays) tables
+  pub layout : Layout (imageIn image .arrays) tables
 
 -- two expressions in a row that were read
 pub record PairRead (level : ℕ) (image tables : List ℕ) (at : ℕ) : Type 0 where

@@ -1,13 +1,12 @@
 -- What an answer of a run says of the definition's result. Assumes nothing.
-use mathlib.Core.Path.{_≡_, refl, sym, ap, ap₂, _∙_}
+use mathlib.Core.Path.{_≡_}
 use mathlib.Core.List.{List}
 use Prim.Native.Nat.{ℕ}
-use Rattle.definitions.specs.Running.{on, halt, andGo, Outcome, next, back}
-use Rattle.definitions.specs.Running.{Ran as Run}
+use Rattle.definitions.specs.Running.{on, halt, Outcome, next, back, Ran as Run}
 use Rattle.tracing.specs.Log.{Log, log}
 use Rattle.runner.specs.declared.Ran.{Ran}
 use Rattle.runner.specs.declared.Ran.the-variants.{On, Back, Stop as Halt}
-use Rattle.runner.specs.Runs.{Went, went, gone, finished, placed, ending}
+use Rattle.runner.specs.Runs.{finished, placed, ending}
 
 on-of : (vs cs slice : List ℕ) (n m u z : ℕ) (x : Run Log Outcome) → finished (On m u z) vs cs slice ≡ ending n x
     → (x ≡ on (next vs cs) z (log u slice)) × (n ≡ m)

@@ -1,14 +1,13 @@
 -- How the answer of the code's run over words is read as the definition's result, and the definition's result on the tree that was read.
 -- Assumes nothing.
-use mathlib.Core.List.{List, []}
-use Prim.Native.Nat.{ℕ, _+_, _-_}
-use lib.ListN.{getD}
+use mathlib.Core.List.{List}
+use Prim.Native.Nat.{ℕ}
 use lib.Seq.{sets}
 use Rattle.definitions.specs.Arithmetic.{truth}
 use Rattle.definitions.specs.Image.{Expression, Statement, Block, Image}
 use Rattle.definitions.specs.Reading.{Parse, got, refused}
-use Rattle.definitions.specs.Running.{Evaluated, value, stop, bind, emit, on, halt, andGo, Outcome, next, back, Callee, evaluate, evaluateAll, passes, runStatement, runBlock, runProcedure}
-use Rattle.definitions.specs.Running.{Ran as Run}
+use Rattle.definitions.specs.Running.{Evaluated, value, stop, bind, emit, on, halt, andGo, Outcome, next, back, Callee}
+use Rattle.definitions.specs.Running.{evaluate, evaluateAll, passes, runStatement, runBlock, runProcedure, Ran as Run}
 use Rattle.tracing.specs.Log.{Log, log, byteTrace}
 use Rattle.tracing.specs.Answers.{until}
 use Rattle.tracing.specs.declared.Value.{Value}

@@ -5,7 +5,7 @@ ghost use lib.ListN.{getD};
 ghost use Rattle.definitions.specs.Image.{opOf};
 ghost use Rattle.definitions.specs.Reading.{readStatement, readBlock};
 ghost use Rattle.tracing.specs.Log.{log};
-ghost use Rattle.evaluator.specs.Program.{programOf};
+ghost use Rattle.laws.specs.ImageIn.{imageIn};
 ghost use Rattle.runner.specs.Known.{paramsIn, Known, StatementRead, BlockRead};
 ghost use Rattle.runner.specs.Runs.{finished, statementAt, blockAt, passesAt};
 use super::Bounds;
@@ -38,7 +38,7 @@ fn run_if(
     level: u32,
 ) -> Ran
     requires { ⌜ (StatementRead level (now image) (now tables) me at) × (Known (now image) (now tables) (now ends) me) × (opOf (getD (now image) at 0) ≡ 2) ⌝ }
-    ensures { λ r. ⌜ finished r (now (vars .exit)) (now (cells .exit)) (now (trace .exit)) ≡ statementAt budget (programOf (now (image .entry))) me at steps (log used (now (trace .entry))) (now (vars .entry)) (now (cells .entry)) (readStatement level (paramsIn (now (tables .entry))) me (now (image .entry)) at) ⌝ }
+    ensures { λ r. ⌜ finished r (now (vars .exit)) (now (cells .exit)) (now (trace .exit)) ≡ statementAt budget (imageIn (now (image .entry))) me at steps (log used (now (trace .entry))) (now (vars .entry)) (now (cells .entry)) (readStatement level (paramsIn (now (tables .entry))) me (now (image .entry)) at) ⌝ }
 {
     match branch(
         image,
@@ -117,7 +117,7 @@ fn run_passes(
     level: u32,
 ) -> Ran
     requires { ⌜ (BlockRead level (now image) (now tables) me body) × (Known (now image) (now tables) (now ends) me) ⌝ }
-    ensures { λ r. ⌜ finished r (now (vars .exit)) (now (cells .exit)) (now (trace .exit)) ≡ passesAt budget (programOf (now (image .entry))) me at x (to - from) from next steps (log used (now (trace .entry))) (now (vars .entry)) (now (cells .entry)) (readBlock level (paramsIn (now (tables .entry))) me (now (image .entry)) body) ⌝ }
+    ensures { λ r. ⌜ finished r (now (vars .exit)) (now (cells .exit)) (now (trace .exit)) ≡ passesAt budget (imageIn (now (image .entry))) me at x (to - from) from next steps (log used (now (trace .entry))) (now (vars .entry)) (now (cells .entry)) (readBlock level (paramsIn (now (tables .entry))) me (now (image .entry)) body) ⌝ }
 {
     let mut i = from;
     let mut u = used;
@@ -169,7 +169,7 @@ fn run_for(
     level: u32,
 ) -> Ran
     requires { ⌜ (StatementRead level (now image) (now tables) me at) × (Known (now image) (now tables) (now ends) me) × (opOf (getD (now image) at 0) ≡ 3) ⌝ }
-    ensures { λ r. ⌜ finished r (now (vars .exit)) (now (cells .exit)) (now (trace .exit)) ≡ statementAt budget (programOf (now (image .entry))) me at steps (log used (now (trace .entry))) (now (vars .entry)) (now (cells .entry)) (readStatement level (paramsIn (now (tables .entry))) me (now (image .entry)) at) ⌝ }
+    ensures { λ r. ⌜ finished r (now (vars .exit)) (now (cells .exit)) (now (trace .exit)) ≡ statementAt budget (imageIn (now (image .entry))) me at steps (log used (now (trace .entry))) (now (vars .entry)) (now (cells .entry)) (readStatement level (paramsIn (now (tables .entry))) me (now (image .entry)) at) ⌝ }
 {
     let x = image[at] % 65536;
     match range(
@@ -225,7 +225,7 @@ fn run_call(
     level: u32,
 ) -> Ran
     requires { ⌜ (StatementRead level (now image) (now tables) me at) × (Known (now image) (now tables) (now ends) me) × (opOf (getD (now image) at 0) ≡ 5) ⌝ }
-    ensures { λ r. ⌜ finished r (now (vars .exit)) (now (cells .exit)) (now (trace .exit)) ≡ statementAt budget (programOf (now (image .entry))) me at steps (log used (now (trace .entry))) (now (vars .entry)) (now (cells .entry)) (readStatement level (paramsIn (now (tables .entry))) me (now (image .entry)) at) ⌝ }
+    ensures { λ r. ⌜ finished r (now (vars .exit)) (now (cells .exit)) (now (trace .exit)) ≡ statementAt budget (imageIn (now (image .entry))) me at steps (log used (now (trace .entry))) (now (vars .entry)) (now (cells .entry)) (readStatement level (paramsIn (now (tables .entry))) me (now (image .entry)) at) ⌝ }
 {
     let w = image[at];
     let f = w % 65536 / 256;
@@ -293,7 +293,7 @@ fn run_statement(
     level: u32,
 ) -> Ran
     requires { ⌜ (StatementRead level (now image) (now tables) me at) × (Known (now image) (now tables) (now ends) me) ⌝ }
-    ensures { λ r. ⌜ finished r (now (vars .exit)) (now (cells .exit)) (now (trace .exit)) ≡ statementAt budget (programOf (now (image .entry))) me at steps (log used (now (trace .entry))) (now (vars .entry)) (now (cells .entry)) (readStatement level (paramsIn (now (tables .entry))) me (now (image .entry)) at) ⌝ }
+    ensures { λ r. ⌜ finished r (now (vars .exit)) (now (cells .exit)) (now (trace .exit)) ≡ statementAt budget (imageIn (now (image .entry))) me at steps (log used (now (trace .entry))) (now (vars .entry)) (now (cells .entry)) (readStatement level (paramsIn (now (tables .entry))) me (now (image .entry)) at) ⌝ }
 {
     let op = image[at] % 268435456 / 65536;
     if op == 0 {
@@ -405,7 +405,7 @@ pub fn run_block(
     level: u32,
 ) -> Ran
     requires { ⌜ (BlockRead level (now image) (now tables) me at) × (Known (now image) (now tables) (now ends) me) ⌝ }
-    ensures { λ r. ⌜ finished r (now (vars .exit)) (now (cells .exit)) (now (trace .exit)) ≡ blockAt budget (programOf (now (image .entry))) me steps (log used (now (trace .entry))) (now (vars .entry)) (now (cells .entry)) (readBlock level (paramsIn (now (tables .entry))) me (now (image .entry)) at) ⌝ }
+    ensures { λ r. ⌜ finished r (now (vars .exit)) (now (cells .exit)) (now (trace .exit)) ≡ blockAt budget (imageIn (now (image .entry))) me steps (log used (now (trace .entry))) (now (vars .entry)) (now (cells .entry)) (readBlock level (paramsIn (now (tables .entry))) me (now (image .entry)) at) ⌝ }
 {
     let count = image[at] % 268435456;
     let mut k = 0;

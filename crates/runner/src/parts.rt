@@ -6,12 +6,12 @@ ghost use lib.ListN.{length, getD, set};
 ghost use Rattle.definitions.specs.Arithmetic as arithmetic;
 ghost use Rattle.definitions.specs.Image.{largestLevel, formOf};
 ghost use Rattle.definitions.specs.Reading.{readExpression, readBlock};
-ghost use Rattle.opening.specs.Parses.{ok, endOf};
+ghost use Rattle.laws.specs.Parses.{ok, endOf};
 ghost use Rattle.reader.specs.Answers.{readArgumentsAt};
 ghost use Rattle.reader.specs.Tables.{BlockEnds};
 ghost use Rattle.tracing.specs.Log.{log};
 ghost use Rattle.tracing.specs.Answers.{evaluation};
-ghost use Rattle.evaluator.specs.Program.{programOf};
+ghost use Rattle.laws.specs.ImageIn.{imageIn};
 ghost use Rattle.evaluator.specs.Evaluation.{Readable};
 ghost use Rattle.runner.specs.Known.{paramsIn, PairRead, ArgumentsRead};
 ghost use Rattle.runner.specs.Runs.{branchAt, slotAt, bounded, rangeNoted, boundsAt, framing, argumentsAt};
@@ -49,7 +49,7 @@ pub fn branch(
     level: u32,
 ) -> tracing::Value
     requires { ⌜ (Readable level (now image) (now tables) at) × (place < 268435456) ⌝ }
-    ensures { λ r. ⌜ evaluation r (now (trace .exit)) ≡ branchAt (programOf (now (image .entry)) .arrays) place (now (vars .entry)) (now (cells .entry)) (log used (now (trace .entry))) (readExpression level (now (image .entry)) at) ⌝ }
+    ensures { λ r. ⌜ evaluation r (now (trace .exit)) ≡ branchAt (imageIn (now (image .entry)) .arrays) place (now (vars .entry)) (now (cells .entry)) (log used (now (trace .entry))) (readExpression level (now (image .entry)) at) ⌝ }
 {
     match evaluator::evaluate(image, tables, vars, cells, trace, at, used, level) {
         tracing::Value::Stop(number, stop, u) => tracing::Value::Stop(number, stop, u),
@@ -71,7 +71,7 @@ pub fn slot(
     level: u32,
 ) -> tracing::Value
     requires { ⌜ (Readable level (now image) (now tables) at) × (place < 268435456) ⌝ }
-    ensures { λ r. ⌜ evaluation r (now (trace .exit)) ≡ slotAt (programOf (now (image .entry)) .arrays) (now (tables .entry)) array place (now (vars .entry)) (now (cells .entry)) (log used (now (trace .entry))) (readExpression level (now (image .entry)) at) ⌝ }
+    ensures { λ r. ⌜ evaluation r (now (trace .exit)) ≡ slotAt (imageIn (now (image .entry)) .arrays) (now (tables .entry)) array place (now (vars .entry)) (now (cells .entry)) (log used (now (trace .entry))) (readExpression level (now (image .entry)) at) ⌝ }
 {
     match evaluator::evaluate(image, tables, vars, cells, trace, at, used, level) {
         tracing::Value::Stop(number, stop, u) => tracing::Value::Stop(number, stop, u),
@@ -113,7 +113,7 @@ pub fn range(
     level: u32,
 ) -> Bounds
     requires { ⌜ (PairRead level (now image) (now tables) at) × (place < 268435456) ⌝ }
-    ensures { λ r. ⌜ bounded r (now (trace .exit)) ≡ boundsAt (programOf (now (image .entry)) .arrays) place (now (vars .entry)) (now (cells .entry)) (log used (now (trace .entry))) (readExpression level (now (image .entry)) at) (readExpression level (now (image .entry)) (endOf (readExpression level (now (image .entry)) at))) ⌝ }
+    ensures { λ r. ⌜ bounded r (now (trace .exit)) ≡ boundsAt (imageIn (now (image .entry)) .arrays) place (now (vars .entry)) (now (cells .entry)) (log used (now (trace .entry))) (readExpression level (now (image .entry)) at) (readExpression level (now (image .entry)) (endOf (readExpression level (now (image .entry)) at))) ⌝ }
 {
     match evaluator::evaluate(image, tables, vars, cells, trace, at, used, level) {
         tracing::Value::Stop(number, stop, u) => Bounds::Stop(number, stop, u),
@@ -147,7 +147,7 @@ pub fn arguments(
     level: u32,
 ) -> tracing::Value
     requires { ⌜ ArgumentsRead count level (now image) (now tables) at ⌝ }
-    ensures { λ r. ⌜ framing r (now (frame .exit)) (now (trace .exit)) ≡ argumentsAt (programOf (now (image .entry)) .arrays) (now (vars .entry)) (now (cells .entry)) (log used (now (trace .entry))) (now (frame .entry)) 0 (readArgumentsAt count level (now (image .entry)) at) ⌝ }
+    ensures { λ r. ⌜ framing r (now (frame .exit)) (now (trace .exit)) ≡ argumentsAt (imageIn (now (image .entry)) .arrays) (now (vars .entry)) (now (cells .entry)) (log used (now (trace .entry))) (now (frame .entry)) 0 (readArgumentsAt count level (now (image .entry)) at) ⌝ }
 {
     let mut k: u32 = 0;
     let mut a = at;

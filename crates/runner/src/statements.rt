@@ -5,7 +5,7 @@ ghost use lib.ListN.{getD};
 ghost use Rattle.definitions.specs.Image.{opOf};
 ghost use Rattle.definitions.specs.Reading.{readStatement};
 ghost use Rattle.tracing.specs.Log.{log};
-ghost use Rattle.evaluator.specs.Program.{programOf};
+ghost use Rattle.laws.specs.ImageIn.{imageIn};
 ghost use Rattle.runner.specs.Known.{paramsIn, StatementRead};
 ghost use Rattle.runner.specs.Runs.{finished, statementAt};
 use super::Ran;
@@ -27,7 +27,7 @@ pub fn run_assign(
     level: u32,
 ) -> Ran
     requires { ⌜ (StatementRead level (now image) (now tables) me at) × (opOf (getD (now image) at 0) ≡ 0) ⌝ }
-    ensures { λ r. ⌜ finished r (now (vars .exit)) (now (cells .entry)) (now (trace .exit)) ≡ statementAt budget (programOf (now (image .entry))) me at steps (log used (now (trace .entry))) (now (vars .entry)) (now (cells .entry)) (readStatement level (paramsIn (now (tables .entry))) me (now (image .entry)) at) ⌝ }
+    ensures { λ r. ⌜ finished r (now (vars .exit)) (now (cells .entry)) (now (trace .exit)) ≡ statementAt budget (imageIn (now (image .entry))) me at steps (log used (now (trace .entry))) (now (vars .entry)) (now (cells .entry)) (readStatement level (paramsIn (now (tables .entry))) me (now (image .entry)) at) ⌝ }
 {
     let x = image[at] % 65536;
     match evaluator::evaluate(image, tables, vars, cells, trace, at + 1, used, level - 1) {
@@ -54,7 +54,7 @@ pub fn run_store(
     level: u32,
 ) -> Ran
     requires { ⌜ (StatementRead level (now image) (now tables) me at) × (opOf (getD (now image) at 0) ≡ 1) ⌝ }
-    ensures { λ r. ⌜ finished r (now (vars .entry)) (now (cells .exit)) (now (trace .exit)) ≡ statementAt budget (programOf (now (image .entry))) me at steps (log used (now (trace .entry))) (now (vars .entry)) (now (cells .entry)) (readStatement level (paramsIn (now (tables .entry))) me (now (image .entry)) at) ⌝ }
+    ensures { λ r. ⌜ finished r (now (vars .entry)) (now (cells .exit)) (now (trace .exit)) ≡ statementAt budget (imageIn (now (image .entry))) me at steps (log used (now (trace .entry))) (now (vars .entry)) (now (cells .entry)) (readStatement level (paramsIn (now (tables .entry))) me (now (image .entry)) at) ⌝ }
 {
     let array = image[at] % 65536;
     match slot(
@@ -104,7 +104,7 @@ pub fn run_return(
     level: u32,
 ) -> Ran
     requires { ⌜ (StatementRead level (now image) (now tables) me at) × (opOf (getD (now image) at 0) ≡ 4) ⌝ }
-    ensures { λ r. ⌜ finished r (now (vars .entry)) (now (cells .entry)) (now (trace .exit)) ≡ statementAt budget (programOf (now (image .entry))) me at steps (log used (now (trace .entry))) (now (vars .entry)) (now (cells .entry)) (readStatement level (paramsIn (now (tables .entry))) me (now (image .entry)) at) ⌝ }
+    ensures { λ r. ⌜ finished r (now (vars .entry)) (now (cells .entry)) (now (trace .exit)) ≡ statementAt budget (imageIn (now (image .entry))) me at steps (log used (now (trace .entry))) (now (vars .entry)) (now (cells .entry)) (readStatement level (paramsIn (now (tables .entry))) me (now (image .entry)) at) ⌝ }
 {
     match evaluator::evaluate(image, tables, vars, cells, trace, at + 1, used, level - 1) {
         tracing::Value::Stop(number, stop, u) => Ran::Stop(number, stop, u, steps),

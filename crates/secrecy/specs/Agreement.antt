@@ -7,7 +7,8 @@ use Prim.Native.Nat.{ℕ, zero, suc, _+_, _-_, _≤_, _<_}
 use native.Mathlib.Nat.{zero-add}
 use native.Mathlib.Omega.{arith}
 use lib.Dec.{eqb, ltb}
-use lib.ListN.{length, getD, set, drop, replicate, length-set, length-append, length-drop, length-replicate, getD-replicate, List·getD-append}
+use lib.ListN.{length, getD, set, drop, replicate, length-set, length-append, length-drop, length-replicate}
+use lib.ListN.{getD-replicate, List·getD-append}
 use lib.Seq.{getD-set-same, getD-set-other, set-out, getD-append-add}
 use borrow.Author.Tests.{eqb-true, eqb-false, ltb-true, ltb-false, lt-ltb, le-ltb}
 use Rattle.definitions.specs.Choice.{pick}

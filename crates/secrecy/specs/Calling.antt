@@ -15,9 +15,11 @@ use Rattle.definitions.specs.Bytes.{wordsOf}
 use Rattle.definitions.specs.Image.{typeSecret, Procedure, Image, procedureAt}
 use Rattle.definitions.specs.Checking.{faultOf}
 use Rattle.definitions.specs.Running.{Ran, Given, traceWords, runProcedure}
-use Rattle.definitions.specs.Requests.{Ready, ready, unready, readyToServe, Called, answered, argumentValues, ended, calledOn, servedCall, call}
+use Rattle.definitions.specs.Requests.{Ready, ready, unready, readyToServe, Called, answered, argumentValues, ended}
+use Rattle.definitions.specs.Requests.{calledOn, servedCall, call}
 use Rattle.definitions.specs.Host.{wholeWords}
-use Rattle.secrecy.specs.Sessions.{imageOf, secretArgument, SameAnswer, bothDone, bothStopped, bothRefused, recordedCount}
+use Rattle.secrecy.specs.Sessions.{imageOf, secretArgument, SameAnswer, bothDone, bothStopped, bothRefused}
+use Rattle.secrecy.specs.Sessions.{recordedCount}
 use Rattle.secrecy.specs.Agreement.{Agree, cellSecret}
 use Rattle.secrecy.specs.Related.{Runs, ons, halts}
 use Rattle.secrecy.specs.Expressions.{variableSecret}

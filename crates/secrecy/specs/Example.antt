@@ -2,25 +2,27 @@
 -- results differ, and the theorem says that all else is the same.
 -- Assumes nothing.
 use mathlib.Core.Path.{_≡_, refl}
-use mathlib.Core.List.{List, [], _∷_}
+use mathlib.Core.List.{List, [], _∷_, flatMap}
 use Prim.Native.Nat.{ℕ, zero, suc}
 use mathlib.Core.Bool.{false, true≢false}
 use lib.ListN.{getD}
 use Rattle.definitions.specs.declared.Answer.the-variants.{Done}
 use Rattle.definitions.specs.Bytes.{bytesOf, wordsOf, lent}
-use Rattle.definitions.specs.Image.{headerWord, arrayWord, procedureWord, typeWord, blockWord, statementWord, expressionWord, rawWord, placeOf, cellCount, baseOf}
-use Rattle.definitions.specs.Reading
+use Rattle.definitions.specs.Image.{headerWord, arrayWord, procedureWord, typeWord, blockWord, statementWord}
+use Rattle.definitions.specs.Image.{expressionWord, rawWord, placeOf, cellCount, baseOf}
 use Rattle.definitions.specs.Faults.{least}
+use Rattle.definitions.specs.Checking.{faultOf, withoutFault, admitted}
+use Rattle.definitions.specs.Operators.{applyBinary, applyUnary}
+use Rattle.definitions.specs.Host.{loadBytes, callBytes}
+use Rattle.definitions.specs.Reading
 use Rattle.definitions.specs.Sorts
 use Rattle.definitions.specs.Labels
-use Rattle.definitions.specs.Checking.{faultOf}
-use Rattle.definitions.specs.Operators.{applyBinary, applyUnary}
 use Rattle.definitions.specs.Running
 use Rattle.definitions.specs.Requests
-use Rattle.definitions.specs.Host.{loadBytes, callBytes}
-use Rattle.secrecy.specs.Sessions
-use Rattle.secrecy.specs.Sessions.{Machine, empty, Request, turn, imageOf, treeOf, secretArgument, AlikeLists, bothEmpty, bothGoOn, loads, calls, SameTurns}
+use Rattle.secrecy.specs.Sessions.{Machine, empty, Request, turn, imageOf, treeOf, secretArgument, AlikeLists}
+use Rattle.secrecy.specs.Sessions.{bothEmpty, bothGoOn, loads, calls, SameTurns}
 use Rattle.secrecy.specs.Secrecy.{secrecy}
+use Rattle.secrecy.specs.Sessions
 
 -- the words that document 01 gives for the compiled example
 abbrev pub example : List ℕ
@@ -65,7 +67,7 @@ unfolding wordsOf bytesOf lent headerWord arrayWord procedureWord typeWord block
     Labels.imageLabelFaults Labels.rcAfter Labels.rcAfterBlock Labels.statementLabelFaults Labels.blockLabelFaults faultOf applyBinary
     applyUnary Running.emit Running.inArray Running.indexAt Running.divided Running.operated Running.evaluate Running.evaluateAll
     Running.tick Running.passes Running.taken Running.received Running.frame Running.finish Running.runProcedure Running.runStatement
-    Running.runBlock Requests.readyTree Requests.readyToLoad Requests.readyToServe Requests.served Requests.load Requests.clear
+    Running.runBlock Requests.withCells withoutFault admitted flatMap Requests.readyToLoad Requests.readyToServe Requests.served Requests.load Requests.clear
     Requests.poke Requests.peek Requests.argumentValues Requests.ended Requests.calledOn Requests.servedCall Requests.call loadBytes
     callBytes turn imageOf treeOf
 compared = (refl, refl, bothGoOn (loads (λ _. refl)) (bothGoOn (calls refl argument refl) bothEmpty))

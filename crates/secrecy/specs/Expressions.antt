@@ -12,10 +12,11 @@ use lib.ListN.{length, getD}
 use borrow.Author.Tests.{ltb-true}
 use Rattle.definitions.specs.Choice.{pick}
 use Rattle.definitions.specs.Operators.{applyBinary, applyUnary}
-use Rattle.definitions.specs.Image.{arraySecret, arrayLength, typeSecret, baseOf, Expression, constant, boolean, variable, cell, unary, binary, select}
+use Rattle.definitions.specs.Image.{arraySecret, arrayLength, typeSecret, baseOf, Expression, constant, boolean}
+use Rattle.definitions.specs.Image.{variable, cell, unary, binary, select}
 use Rattle.definitions.specs.Labels.{secretIn, labelFaults, argumentLabelFaults}
-use Rattle.definitions.specs.Running.{Trace, value, stop, emit, inArray, indexAt, divided, operated, evaluate, evaluateAll}
-use Rattle.secrecy.specs.Faultless.{Faultless}
+use Rattle.definitions.specs.Running.{Trace, value, stop, emit, inArray, indexAt, divided, operated, evaluate}
+use Rattle.definitions.specs.Running.{evaluateAll}
 use Rattle.secrecy.specs.Rules.{or-left, or-right, cell-rules, binary-rules, select-rules, argument-rules}
 use Rattle.secrecy.specs.Agreement.{Agree, agree-cons, agree-labels, cellSecret, layout}
 use Rattle.secrecy.specs.Related.{Evaluations, values, stops, relaxed, itself, on-bind}
@@ -52,7 +53,7 @@ same-operated {T} C p o v w x y t s r e f d = by-test (eqb o 9 || eqb o 10) d
 
 module _ {T : Type 0} (C : Trace T) (arrays types bounds : List ℕ) (context : Bool) {n m : ℕ} {vs us cs ds : List ℕ}
     (hv : Agree n (variableSecret types) vs us) (hc : Agree m (cellSecret arrays) cs ds) where
-  pub same-evaluate : (e : Expression) → Faultless (labelFaults types arrays bounds context e) → (t : T)
+  pub same-evaluate : (e : Expression) → (labelFaults types arrays bounds context e ≡ []) → (t : T)
       → Evaluations (λ v w. secretIn types arrays e ≡ false → v ≡ w) (evaluate C arrays e vs cs t) (evaluate C arrays e us ds t)
   unfolding evaluate secretIn labelFaults
   same-evaluate (constant p v) h t = values (λ g. refl)
@@ -84,7 +85,7 @@ module _ {T : Type 0} (C : Trace T) (arrays types bounds : List ℕ) (context : 
 
   -- a call's arguments, by the parameters from number k on
   pub same-arguments : (callee : List ℕ) (es : List Expression) (k : ℕ)
-      → Faultless (argumentLabelFaults types arrays bounds context callee k es) → (t : T)
+      → (argumentLabelFaults types arrays bounds context callee k es ≡ []) → (t : T)
       → Evaluations (Agree (length es) (λ i. variableSecret callee (k + i))) (evaluateAll C arrays es vs cs t) (evaluateAll C arrays es us ds t)
   unfolding evaluateAll
   same-arguments callee [] k h t = values (record { left = refl; right = refl; here = λ i g. refl })

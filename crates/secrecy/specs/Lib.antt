@@ -1,5 +1,4 @@
 pub mod Sessions
-pub mod Faultless
 pub mod Rules
 pub mod Agreement
 pub mod Related

@@ -2,17 +2,19 @@
 -- Assumes nothing.
 use mathlib.Core.Path.{_≡_, refl}
 use mathlib.Core.Bool.{Bool, true, false}
-use mathlib.Core.List.{List}
+use mathlib.Core.List.{List, [], flatMap, _∷_}
 use Prim.Native.Nat.{ℕ, zero, suc, _+_, _-_}
 use lib.Dec.{eqb}
 use lib.ListN.{length, replicate}
 use borrow.Author.Tests.{eqb-true, eq-eqb}
 use Rattle.definitions.specs.Choice.{pick}
 use Rattle.definitions.specs.Image.{Procedure, Image, procedureAt, guarded}
-use Rattle.definitions.specs.Labels.{unbounded, procedureLabelFaults, imageLabelFaults}
+use Rattle.definitions.specs.Labels.{unbounded, procedureLabelFaults, imageLabelFaults, proceduresLabelFaults}
+use Rattle.definitions.specs.Labels.{blockLabelFaults}
 use Rattle.definitions.specs.Checking.{faultOf}
 use Rattle.definitions.specs.Running.{Trace, Ran, Outcome, Given, Callee, andGo, runBlock, frame, finish, runProcedure}
-use Rattle.secrecy.specs.Faultless.{Faultless, label-none, procedure-none}
+use Rattle.laws.specs.Faultless.{faultless}
+use Rattle.laws.specs.Tests.{nil-left, nil-right}
 use Rattle.secrecy.specs.Agreement.{Agree, agree-append, cellSecret}
 use Rattle.secrecy.specs.Related.{Runs, ons, on-andGo}
 use Rattle.secrecy.specs.Expressions.{variableSecret}
@@ -33,6 +35,13 @@ unfolding finish
 same-finish (nexts a c) z t = ons (gives (λ _. refl) c)
 same-finish (backs e c) z t = ons (gives e c)
 
+-- no fault of a procedure among those of all, nor of a number that names none
+procedure-none : (image : Image) (ps : List Procedure) (f : ℕ) → proceduresLabelFaults image ps ≡ [] → procedureLabelFaults image (procedureAt ps f) ≡ []
+unfolding proceduresLabelFaults flatMap procedureLabelFaults blockLabelFaults
+procedure-none image [] f h = refl
+procedure-none image (p ∷ ps) zero h = nil-left (procedureLabelFaults image p) (proceduresLabelFaults image ps) h
+procedure-none image (p ∷ ps) (suc f) h = procedure-none image ps f (nil-right (procedureLabelFaults image p) (proceduresLabelFaults image ps) h)
+
 module _ {T : Type 0} (C : Trace T) (budget m : ℕ) (image : Image) where
   -- what a run of the procedure numbered n does, where K runs those that it calls
   abbrev invoked : Callee T → ℕ → List ℕ → ℕ → T → List ℕ → Ran T Given
@@ -43,7 +52,7 @@ module _ {T : Type 0} (C : Trace T) (budget m : ℕ) (image : Image) where
   lower n = λ f ws z t cs. runProcedure C budget (image .arrays) (image .procedures) n f ws z t cs
 
   -- one procedure, where those that it calls keep what agrees
-  same-invoked : image .form ≡ 1 → Faultless (imageLabelFaults image) → (K : Callee T) → KeepsCalls m (image .arrays) (image .procedures) K
+  same-invoked : image .form ≡ 1 → (imageLabelFaults image ≡ []) → (K : Callee T) → KeepsCalls m (image .arrays) (image .procedures) K
       → (n k : ℕ) (ws xs : List ℕ) (z : ℕ) (t : T) (cs ds : List ℕ)
       → Agree k (variableSecret (procedureAt (image .procedures) n .types)) ws xs → Agree m (cellSecret (image .arrays)) cs ds
       → Runs (Results m (image .arrays) (procedureAt (image .procedures) n .result)) (invoked K n ws z t cs) (invoked K n xs z t ds)
@@ -56,7 +65,7 @@ module _ {T : Type 0} (C : Trace T) (budget m : ℕ) (image : Image) where
       (procedure-none image (image .procedures) n h) z t (frame ws) (frame xs) cs ds (same-frame a) c)
       λ o q w v r. same-finish r w v
 
-  same-procedures : image .form ≡ 1 → Faultless (imageLabelFaults image) → (n : ℕ) → KeepsCalls m (image .arrays) (image .procedures) (lower n)
+  same-procedures : image .form ≡ 1 → (imageLabelFaults image ≡ []) → (n : ℕ) → KeepsCalls m (image .arrays) (image .procedures) (lower n)
   unfolding runProcedure
   same-procedures one h zero f k ws xs z t cs ds a c = ons (gives (λ _. refl) c)
   same-procedures one h (suc n) f k ws xs z t cs ds a c =
@@ -73,4 +82,4 @@ module _ {T : Type 0} (C : Trace T) (budget m : ℕ) (image : Image) where
 -- stop with its number and place are the same, a public result is the same, and the cells agree where they are public.
 pub same-run : {T : Type 0} (C : Trace T) (budget m : ℕ) (image : Image) → image .form ≡ 1 → faultOf image .number ≡ 0
     → (n : ℕ) → KeepsCalls m (image .arrays) (image .procedures) (runProcedure C budget (image .arrays) (image .procedures) n)
-same-run C budget m image one h n = same-procedures C budget m image one (label-none image h) n
+same-run C budget m image one h n = same-procedures C budget m image one (faultless image h .1) n

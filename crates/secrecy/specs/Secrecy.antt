@@ -18,7 +18,9 @@ use Rattle.definitions.specs.Bytes.{wordsOf}
 use Rattle.definitions.specs.declared.Answer.{Answer}
 use Rattle.definitions.specs.Reading.{readImage}
 use Rattle.definitions.specs.Host.{layout, answerWords}
-use Rattle.secrecy.specs.Sessions.{Machine, empty, Request, imageOf, treeOf, AlikeLists, bothEmpty, bothGoOn, nothing, SameTurns, noTurn, oneTurn, SameAnswer, bothDone, bothStopped, bothRefused}
+use Rattle.secrecy.specs.Sessions.{Machine, empty, Request, imageOf, treeOf, AlikeLists, bothEmpty, bothGoOn}
+use Rattle.secrecy.specs.Sessions.{nothing, SameTurns, noTurn, oneTurn, SameAnswer, bothDone, bothStopped}
+use Rattle.secrecy.specs.Sessions.{bothRefused}
 use Rattle.secrecy.specs.Agreement.{cellSecret}
 use Rattle.secrecy.specs.Turns.{Paired, paired, turned-alike, same-count}
 

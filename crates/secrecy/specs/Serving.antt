@@ -12,7 +12,8 @@ use Rattle.definitions.specs.Choice.{pick}
 use Rattle.definitions.specs.declared.Answer.the-variants.{Refused}
 use Rattle.definitions.specs.Bytes.{wordsOf}
 use Rattle.definitions.specs.Image.{arraySecret, arrayLength, baseOf, Image}
-use Rattle.definitions.specs.Requests.{Ready, ready, unready, readyToServe, Served, served, carriedOut, zeroed, hasCell, clear, poke, peek}
+use Rattle.definitions.specs.Requests.{Ready, ready, unready, readyToServe, Served, served, carriedOut, zeroed, hasCell}
+use Rattle.definitions.specs.Requests.{clear, poke, peek}
 use Rattle.definitions.specs.Host.{wholeWords}
 use Rattle.secrecy.specs.Sessions.{imageOf, secretCell, SameAnswer, bothDone, bothRefused}
 use Rattle.secrecy.specs.Usable.{usable-serve}

@@ -3,18 +3,21 @@
 -- Assumes nothing.
 use mathlib.Core.Path.{_≡_, refl, sym, ap, _∙_}
 use mathlib.Core.Bool.{Bool, true, false, _||_}
-use mathlib.Core.List.{List}
+use mathlib.Core.List.{List, []}
 use Prim.Native.Nat.{ℕ, zero, suc, _+_, _-_}
 use native.Mathlib.Nat.{zero-add}
 use lib.Dec.{eqb}
 use lib.ListN.{length, set}
 use Rattle.definitions.specs.Choice.{pick}
 use Rattle.definitions.specs.Arithmetic.{truth}
-use Rattle.definitions.specs.Image.{typeSecret, baseOf, Expression, Statement, assign, store, conditional, loop, return, call, Block, done, step, Procedure, procedureAt}
-use Rattle.definitions.specs.Labels.{secretIn, rcAfter, rcAfterBlock, boundsInside, statementLabelFaults, blockLabelFaults}
-use Rattle.definitions.specs.Running.{Trace, Outcome, next, back, Given, gave, Callee, Body, emit, after, passes, taken, received, runStatement, runBlock}
-use Rattle.secrecy.specs.Faultless.{Faultless}
-use Rattle.secrecy.specs.Rules.{bound-rules, assign-rules, store-rules, conditional-rules, loop-rules, return-rules, call-rules, step-rules}
+use Rattle.definitions.specs.Image.{typeSecret, baseOf, Expression, Statement, assign, store, conditional, loop, return}
+use Rattle.definitions.specs.Image.{call, Block, done, sequence, Procedure, procedureAt}
+use Rattle.definitions.specs.Labels.{secretIn, rcAfter, rcAfterBlock, boundsInside, statementLabelFaults}
+use Rattle.definitions.specs.Labels.{blockLabelFaults}
+use Rattle.definitions.specs.Running.{Trace, Outcome, next, back, Given, gave, Callee, Body, emit, after, passes, taken}
+use Rattle.definitions.specs.Running.{received, runStatement, runBlock}
+use Rattle.secrecy.specs.Rules.{bound-rules, assign-rules, store-rules, conditional-rules, loop-rules}
+use Rattle.secrecy.specs.Rules.{return-rules, call-rules, step-rules}
 use Rattle.secrecy.specs.Agreement.{Agree, agree-set, agree-labels, cellSecret, layout}
 use Rattle.secrecy.specs.Related.{Runs, ons, itself, on-within, on-andGo, on-tick}
 use Rattle.secrecy.specs.Expressions.{variableSecret, same-index, same-evaluate, same-arguments}
@@ -82,12 +85,12 @@ module _ {T : Type 0} (C : Trace T) (budget form : ℕ) (ps : List Procedure) (a
   -- what is shown of a statement, and of a block
   abbrev SameStatement : Statement → Type 0
   SameStatement s =
-      (bounds : List ℕ) (pc rc : Bool) (l : ℕ) → Faultless (statementLabelFaults form ps arrays types result bounds pc rc l s)
+      (bounds : List ℕ) (pc rc : Bool) (l : ℕ) → (statementLabelFaults form ps arrays types result bounds pc rc l s ≡ [])
       → Keeps n m arrays types result (runStatement C budget arrays K l s)
 
   abbrev SameBlock : Block → Type 0
   SameBlock b =
-      (bounds : List ℕ) (pc rc : Bool) → Faultless (blockLabelFaults form ps arrays types result bounds pc rc b)
+      (bounds : List ℕ) (pc rc : Bool) → (blockLabelFaults form ps arrays types result bounds pc rc b ≡ [])
       → Keeps n m arrays types result (runBlock C budget arrays K b)
 
   same-assign : (x : ℕ) (e : Expression) → SameStatement (assign x e)
@@ -149,7 +152,7 @@ module _ {T : Type 0} (C : Trace T) (budget form : ℕ) (ps : List Procedure) (a
       (agree-labels (λ i. ap (λ (j : ℕ). variableSecret (procedureAt ps f .types) j) (zero-add i)) q) c) λ o p w v g.
       same-received x (procedureAt ps f .result) vs us a (r .0) g w v
 
-  same-step : (l : ℕ) (s : Statement) (b : Block) → SameStatement s → SameBlock b → SameBlock (step l s b)
+  same-step : (l : ℕ) (s : Statement) (b : Block) → SameStatement s → SameBlock b → SameBlock (sequence l s b)
   unfolding runBlock
   same-step l s b ks kb bounds pc rc h z t vs us cs ds a c =
       let r = step-rules form ps arrays types result bounds pc rc l s b h in
@@ -173,4 +176,4 @@ module _ {T : Type 0} (C : Trace T) (budget form : ℕ) (ps : List Procedure) (a
 
     pub same-block : (b : Block) → SameBlock b
     same-block done = same-done
-    same-block (step l s b) = same-step l s b (same-statement s) (same-block b)
+    same-block (sequence l s b) = same-step l s b (same-statement s) (same-block b)

@@ -11,16 +11,19 @@ use Rattle.definitions.specs.declared.Answer.{Answer}
 use Rattle.definitions.specs.declared.Answer.the-variants.{Refused}
 use Rattle.definitions.specs.Bytes.{wordsOf, lent}
 use Rattle.definitions.specs.Reading.{readImage}
-use Rattle.definitions.specs.Checking.{checked}
-use Rattle.definitions.specs.Requests.{Ready, ready, unready, readyToLoad, Served, served, carriedOut, zeroed, Called, load, clear, poke, peek, call}
+use Rattle.definitions.specs.Checking.{checked, admitted}
+use Rattle.definitions.specs.Requests.{Ready, ready, unready, readyToLoad, Served, served, carriedOut, zeroed, Called}
+use Rattle.definitions.specs.Requests.{load, clear, poke, peek, call}
 use Rattle.definitions.specs.Host.{wholeWords, loadBytes, clearBytes, pokeBytes, peekBytes, callBytes, checkBytes}
-use Rattle.secrecy.specs.Sessions
-use Rattle.secrecy.specs.Sessions.{Machine, Response, turn, accepted, recordedCount, treeOf, imageOf, secretResult, Alike, loads, pokes, peeks, clears, calls, bothDone, bothRefused, InForce, nothing, SameResponse}
+use Rattle.secrecy.specs.Sessions.{Machine, Response, turn, accepted, recordedCount, treeOf, imageOf}
+use Rattle.secrecy.specs.Sessions.{secretResult, Alike, loads, pokes, peeks, clears, calls, bothDone, bothRefused}
+use Rattle.secrecy.specs.Sessions.{InForce, nothing, SameResponse}
 use Rattle.secrecy.specs.Agreement.{Agree, agree-zeroed, cellSecret}
 use Rattle.secrecy.specs.Lending.{length-wordsOf, wordsOf-lent, length-lent, take-lent}
 use Rattle.secrecy.specs.Usable.{usable-load}
 use Rattle.secrecy.specs.Serving.{ServedAlike, public-cells, same-poke, same-peek, same-clear}
 use Rattle.secrecy.specs.Calling.{CalledAlike, same-call}
+use Rattle.secrecy.specs.Sessions
 
 -- Two machines with one image in force, and as many lent bytes for cells, which agree where they are public.
 pub data Paired : Machine → Machine → Type 0 where
@@ -116,7 +119,7 @@ module _ (image cells cells′ : List ℕ) (force : InForce image) (size : lengt
   turned-load : (bytes : List ℕ) (r : Ready) → readyToLoad (wholeWords bytes) (wordsOf bytes) (length (wordsOf cells)) ≡ r
       → (accepted (loading (wordsOf cells) r .0) ≡ true → imageOf bytes .form ≡ 1)
       → Turned false (loaded image bytes cells r) (loaded image bytes cells′ r)
-  unfolding served checkBytes checked imageOf
+  unfolding served checkBytes checked admitted imageOf
   turned-load bytes (ready tree) e f =
       let u = usable-load bytes (length (wordsOf cells)) tree e in
       turned bytes cells cells′ (Sessions.checked (u .accepts) (f refl)) size (carriedOut 0, zeroed tree (wordsOf cells))

@@ -2,32 +2,30 @@
 use mathlib.Core.Path.{_≡_, refl, sym, ap, _∙_}
 use mathlib.Core.Bool.{true}
 use mathlib.Core.List.{List, _++_}
-use Prim.Native.Nat.{ℕ, _+_, _-_, _*_, _/_, _≤_, _<_, min}
+use Prim.Native.Nat.{ℕ, _-_, _*_, _/_, _≤_}
 use native.Mathlib.Omega.{arith}
-use lib.ListN.{length, take, drop, length-take}
+use lib.ListN.{length, take, drop}
 use Rattle.definitions.specs.Bytes.{wordsOf, bytesOf, lent}
 use Rattle.definitions.specs.Image.{Image, cellCount}
 use Rattle.definitions.specs.Reading.{got, readImage}
-use Rattle.definitions.specs.Requests.{calledOn, readyToServe, ready}
-use Rattle.definitions.specs.Requests.{Called as Gave}
+use Rattle.definitions.specs.Requests.{calledOn, readyToServe, ready, Called as Gave}
 use Rattle.definitions.specs.Host.{wholeWords, callBytes}
 use Rattle.definitions.specs.declared.Answer.{Answer}
 use Rattle.definitions.specs.declared.Answer.the-variants.{Refused}
-use Rattle.places.specs.Named.{answerPlace}
-use Rattle.places.specs.Answers.{called-within}
+use Rattle.results.specs.Named.{answerPlace}
+use Rattle.results.specs.Requests.{called-within}
 use Rattle.words.proofs.Laws.{Bytes, length-wordsOf}
-use Rattle.evaluator.specs.Program.{programOf}
+use Rattle.laws.specs.ImageIn.{imageIn, image-in, length-limit}
 use Rattle.machine.specs.declared.Machine.{Machine}
 use Rattle.machine.specs.declared.Turn.{Turn}
 use Rattle.machine.specs.Turns.{held}
 use Rattle.requests.specs.ByteRequests.{call-refused, call-ready}
-use Rattle.requests.specs.ReadImages.{image-read}
+use Rattle.laws.specs.ReadImages.{open-image}
 use Rattle.ready.specs.declared.Ready.{Ready}
 use Rattle.ready.specs.declared.Ready.the-variants.{Words, Unready}
 use Rattle.ready.specs.Prepared.{Prepared}
-use Rattle.ready.specs.Prepared.{Serves as Accepted}
 use Rattle.machine.specs.Serving.{Serves, TurnedCall}
-use Rattle.machine.specs.Lookups.{serves-tree, program-is}
+use Rattle.machine.specs.Lookups.{serves-tree}
 use Rattle.serving.specs.Served.{AnsweredCall, Callable, Called}
 
 -- the part of the words that starts at 0
@@ -40,18 +38,18 @@ call-asks words n params places ends size count own c e = rw (part-is words n, e
 
 pub called-back : (words : List ℕ) (n : ℕ) (cells after before trace : List ℕ) (count : ℕ) (m : Machine) (t : Turn) (f : ℕ) (arguments : List ℕ) (budget : ℕ)
     → held m ≡ take count (wordsOf cells) → m .count ≡ count
-    → TurnedCall m t before trace (calledOn (programOf (take (n - 0) (drop 0 words))) (held m) f (wordsOf arguments) budget (length (wordsOf before)))
+    → TurnedCall m t before trace (calledOn (imageIn (take (n - 0) (drop 0 words))) (held m) f (wordsOf arguments) budget (length (wordsOf before)))
     → after ≡ bytesOf (held (t .machine)) ++ drop (4 * t .machine .count) cells
     → Called (t .answer) cells after before trace count
-    (calledOn (programOf (take n words)) (take count (wordsOf cells)) f (wordsOf arguments) budget (length (wordsOf before)))
+    (calledOn (imageIn (take n words)) (take count (wordsOf cells)) f (wordsOf arguments) budget (length (wordsOf before)))
 called-back words n cells after before trace count m t f arguments budget h c turned e =
-    let same : calledOn (programOf (take (n - 0) (drop 0 words))) (held m) f (wordsOf arguments) budget (length (wordsOf before))
-    ≡ calledOn (programOf (take n words)) (take count (wordsOf cells)) f (wordsOf arguments) budget (length (wordsOf before)) = rw (part-is words n, h) in
+    let same : calledOn (imageIn (take (n - 0) (drop 0 words))) (held m) f (wordsOf arguments) budget (length (wordsOf before))
+    ≡ calledOn (imageIn (take n words)) (take count (wordsOf cells)) f (wordsOf arguments) budget (length (wordsOf before)) = rw (part-is words n, h) in
     record {
       answer = turned .answer ∙ ap (λ (q : Gave). q .0) same;
       cells-after =
           (let k : t .machine .count ≡ count = turned .same ∙ c in
-          let d : held (t .machine) ≡ calledOn (programOf (take n words)) (take count (wordsOf cells)) f (wordsOf arguments) budget (length (wordsOf before)) .1 =
+          let d : held (t .machine) ≡ calledOn (imageIn (take n words)) (take count (wordsOf cells)) f (wordsOf arguments) budget (length (wordsOf before)) .1 =
           turned .cells ∙ ap (λ (q : Gave). q .1) same in
           rw (e, d, k));
       trace-after = turned .trace ∙ ap (λ (q : Gave). lent before (q .2)) same;
@@ -80,15 +78,15 @@ module _ (image cells words params places ends : List ℕ) (bytes : Bytes cells)
 
   pub call-done : (n own : ℕ) → r ≡ Words n own → (answer : Answer) (after before trace : List ℕ) (f : ℕ) (arguments : List ℕ) (budget : ℕ)
       → Called answer cells after before trace own
-      (calledOn (programOf (take n words)) (take own (wordsOf cells)) f (wordsOf arguments) budget (length (wordsOf before)))
+      (calledOn (imageIn (take n words)) (take own (wordsOf cells)) f (wordsOf arguments) budget (length (wordsOf before)))
       → AnsweredCall answer after trace (callBytes image cells f arguments budget before)
   call-done n own e answer after before trace f arguments budget c =
       let (tree, s, d, t, l) = q .accepted n own e in
-      let same : programOf (take n words) ≡ tree = ap programOf t ∙ program-is (wordsOf image) tree (s .end) (s .read) in
+      let same : imageIn (take n words) ≡ tree = ap imageIn t ∙ image-in (wordsOf image) tree (s .end) (s .read) in
       go tree (s .end) (s .read) (s .own) (let h = s .enough in omega arith) (rw size at d) same
     where
       go : (tree : Image) (end : ℕ) → readImage true (wordsOf image) ≡ got tree end → own ≡ cellCount (tree .arrays) → 4 * own ≤ length cells
-          → readyToServe (wholeWords image) (wordsOf image) (length (wordsOf cells)) ≡ ready tree → programOf (take n words) ≡ tree
+          → readyToServe (wholeWords image) (wordsOf image) (length (wordsOf cells)) ≡ ready tree → imageIn (take n words) ≡ tree
           → AnsweredCall answer after trace (callBytes image cells f arguments budget before)
       go tree end read count enough d same =
           let m : Gave = calledOn tree (take own (wordsOf cells)) f (wordsOf arguments) budget (length (wordsOf before)) in
@@ -101,7 +99,7 @@ module _ (image cells words params places ends : List ℕ) (bytes : Bytes cells)
             gives = (rw (a, b, w)) ∙ sym (call-ready cells bytes image tree own count enough d f arguments budget before m refl);
             place =
                 (let h = called-within true (wordsOf image) tree end read (take own (wordsOf cells)) f (wordsOf arguments) budget (length (wordsOf before)) in
-                let i = image-read true (wordsOf image) tree end read in
+                let i = open-image true (wordsOf image) tree end read in
                 let z : answerPlace answer ≡ answerPlace (m .0) = ap answerPlace a in
-                let short = i .short in omega arith);
+                let short = length-limit i in omega arith);
           }

@@ -1,6 +1,6 @@
 -- Each way in which a request on lent bytes ends. Assumes nothing.
-use mathlib.Core.Path.{_≡_, refl, sym, ap, ap₂, _∙_}
-use mathlib.Core.Bool.{Bool, true, false, _&&_}
+use mathlib.Core.Path.{_≡_, refl, sym, ap, _∙_}
+use mathlib.Core.Bool.{Bool, true, false}
 use mathlib.Core.List.{List, [], _∷_, _++_}
 use Prim.Native.Nat.{ℕ, zero, suc, _+_, _-_, _*_, _/_, _≤_, _<_, min}
 use native.Mathlib.Omega.{arith}
@@ -8,13 +8,12 @@ use lib.ListN.{length, getD, take, drop, length-take, take-append-drop, set}
 use lib.Seq.{getD-take, take-take, length-take-le}
 use Rattle.definitions.specs.Choice.{pick}
 use Rattle.definitions.specs.Bytes.{wordsOf, bytesOf, lent}
-use Rattle.definitions.specs.Image.{Image, arraysOf, cellCount, baseOf}
-use Rattle.definitions.specs.Reading.{got, readImage}
+use Rattle.definitions.specs.Image.{Image, arraysOf, baseOf}
 use Rattle.definitions.specs.Requests.{Served, carriedOut, readyToLoad, readyToServe}
 use Rattle.definitions.specs.Host.{wholeWords, loadBytes, clearBytes, pokeBytes, peekBytes}
 use Rattle.definitions.specs.declared.Answer.{Answer}
-use Rattle.definitions.specs.declared.Answer.the-variants.{Done, Stopped, Refused}
-use Rattle.places.specs.Named.{answerPlace}
+use Rattle.definitions.specs.declared.Answer.the-variants.{Refused}
+use Rattle.results.specs.Named.{answerPlace}
 use Rattle.words.proofs.Laws.{Bytes, length-wordsOf, lent-wordsOf}
 use Rattle.machine.specs.declared.Machine.{Machine}
 use Rattle.machine.specs.declared.Turn.{Turn}
@@ -22,8 +21,10 @@ use Rattle.requests.specs.Cells.{hasCellIn}
 use Rattle.requests.specs.OwnCells.{Fits, clearOn, pokeOn, peekOn}
 use Rattle.machine.specs.Turns.{held, Turned}
 use Rattle.requests.specs.LentCells.{lent-front}
-use Rattle.requests.specs.ReadImages.{image-read}
-use Rattle.requests.specs.ByteRequests.{afterwards, load-refused, clear-refused, poke-refused, peek-refused, load-ready, clear-ready, poke-ready, peek-ready}
+use Rattle.laws.specs.ReadImages.{open-image}
+use Rattle.laws.specs.ImageIn.{arrays-limit, cells-limit, arrays-inside, arrays-part}
+use Rattle.requests.specs.ByteRequests.{afterwards, load-refused, clear-refused, poke-refused, peek-refused, load-ready}
+use Rattle.requests.specs.ByteRequests.{clear-ready, poke-ready, peek-ready}
 use Rattle.ready.specs.declared.Ready.{Ready}
 use Rattle.ready.specs.declared.Ready.the-variants.{Words, Unready}
 use Rattle.ready.specs.Prepared.{arraysIn, Serves, Prepared}
@@ -100,28 +101,28 @@ module _ (image words : List ℕ) (n cells count : ℕ) (params places ends : Li
     (s : Serves true (wordsOf image) cells count params places ends tree) (spelled : take n words ≡ wordsOf image) where
   some : (0 < n) × (1 + arraysOf (getD (wordsOf image) 0 0) ≤ n) × (length (wordsOf image) ≤ length words)
   some =
-      let i = image-read true (wordsOf image) tree (s .end) (s .read) in
+      let i = open-image true (wordsOf image) tree (s .end) (s .read) in
       let l : length (wordsOf image) ≡ min n (length words) = ap length (sym spelled) ∙ length-take n words in
-      let w = i .arraysWithin in (omega arith, omega arith, omega arith)
+      let w = arrays-inside i in (omega arith, omega arith, omega arith)
 
   same-header : getD words 0 0 ≡ getD (wordsOf image) 0 0
   same-header = sym (getD-take n words 0 0 (some .0)) ∙ ap (λ (x : List ℕ). getD x 0 0) spelled
 
   same-arrays : arraysIn words ≡ tree .arrays
   same-arrays =
-      let i = image-read true (wordsOf image) tree (s .end) (s .read) in
+      let i = open-image true (wordsOf image) tree (s .end) (s .read) in
       ap (λ (w : ℕ). take (arraysOf w) (drop 1 words)) same-header
       ∙ sym (front (arraysOf (getD (wordsOf image) 0 0)) n words (some .1))
       ∙ ap (λ (x : List ℕ). take (arraysOf (getD (wordsOf image) 0 0)) (drop 1 x)) spelled
-      ∙ sym (i .arrays)
+      ∙ arrays-part i
 
   pub lends : (size : ℕ) → count ≡ size / 4 → Lends words size cells
   lends size c =
-      let i = image-read true (wordsOf image) tree (s .end) (s .read) in
-      let few : length (tree .arrays) ≤ 16 = (let q = i .arrayCount in let f = i .fewArrays in omega arith) in
+      let i = open-image true (wordsOf image) tree (s .end) (s .read) in
+      let few : length (tree .arrays) ≤ 16 = (let q = i .arrays .words .count in let f = arrays-limit i in omega arith) in
       record {
-        within = (let w = i .arraysWithin in let (a, b, d) = some in rw same-header (omega arith));
-        fits = rw same-arrays (record { few = few; most = i .fewCells; all = s .own });
+        within = (let w = arrays-inside i in let (a, b, d) = some in rw same-header (omega arith));
+        fits = rw same-arrays (record { few = few; most = cells-limit i; all = s .own });
         enough = (let e = s .enough in omega arith);
       }
 

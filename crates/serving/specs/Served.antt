@@ -6,7 +6,7 @@ use lib.ListN.{length, getD, take, drop}
 use Rattle.definitions.specs.Bytes.{bytesOf, lent}
 use Rattle.definitions.specs.declared.Answer.{Answer}
 use Rattle.definitions.specs.Image.{arraysOf}
-use Rattle.places.specs.Named.{answerPlace}
+use Rattle.results.specs.Named.{answerPlace}
 use Rattle.requests.specs.OwnCells.{Fits}
 use Rattle.ready.specs.Prepared.{arraysIn}
 use Rattle.machine.specs.Serving.{Serves}

@@ -6,7 +6,7 @@ ghost use lib.ListN.{length, take, drop};
 ghost use Rattle.definitions.specs.Bytes.{wordsOf, bytesOf, lent};
 ghost use Rattle.definitions.specs.Requests.{calledOn};
 ghost use Rattle.definitions.specs.Host.{callBytes};
-ghost use Rattle.evaluator.specs.Program.{programOf};
+ghost use Rattle.laws.specs.ImageIn.{imageIn};
 ghost use Rattle.serving.specs.Served.{AnsweredCall, Called, Callable};
 use definitions::Answer;
 use machine::Machine;
@@ -28,7 +28,7 @@ fn call_cells(
 ) -> Answer
     requires { ⌜ Callable (now words) n (now params) (now places) (now ends) (length (now cells)) count ⌝ }
     ensures { λ r. ⌜ Called r (now (cells .entry)) (now (cells .exit)) (now (trace .entry)) (now (trace .exit)) count
-        (calledOn (programOf (take n (now (words .entry)))) (take count (wordsOf (now (cells .entry)))) f (wordsOf (now (arguments .entry))) budget (length (wordsOf (now (trace .entry))))) ⌝ }
+        (calledOn (imageIn (take n (now (words .entry)))) (take count (wordsOf (now (cells .entry)))) f (wordsOf (now (arguments .entry))) budget (length (wordsOf (now (trace .entry))))) ⌝ }
 {
     let before = Machine::lent(cells, count);
     let turn = before.call(

@@ -5,7 +5,7 @@ ghost use lib.ListN.{length, getD, take};
 ghost use Rattle.definitions.specs.Bytes.{wordsOf};
 ghost use Rattle.definitions.specs.Image.{arraysOf};
 ghost use Rattle.definitions.specs.Host.{pokeBytes, peekBytes};
-ghost use Rattle.places.specs.Named.{answerPlace};
+ghost use Rattle.results.specs.Named.{answerPlace};
 ghost use Rattle.requests.specs.OwnCells.{Fits, pokeOn, peekOn};
 ghost use Rattle.requests.specs.ByteRequests.{afterwards};
 ghost use Rattle.ready.specs.Prepared.{arraysIn};

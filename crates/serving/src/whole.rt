@@ -3,7 +3,7 @@ ghost use mathlib.Core.Path.{_≡_};
 ghost use Prim.Native.Nat.{_*_, _≤_, _<_};
 ghost use lib.ListN.{length};
 ghost use Rattle.definitions.specs.Host.{loadBytes, clearBytes};
-ghost use Rattle.places.specs.Named.{answerPlace};
+ghost use Rattle.results.specs.Named.{answerPlace};
 ghost use Rattle.requests.specs.OwnCells.{clearOn};
 ghost use Rattle.requests.specs.ByteRequests.{afterwards};
 ghost use Rattle.serving.specs.Served.{Answered};

@@ -1,15 +1,14 @@
 -- Rules for what the functions return: the words at a procedure's place are those of its signature. Assumes nothing.
-use Prim.Native.Nat.{ℕ, zero, suc, _+_, _/_, _%_, _≤_, _<_}
-use native.Mathlib.Omega.{arith}
-use mathlib.Core.Path.{_≡_, refl, sym, ap, _∙_}
-use mathlib.Core.Bool.{Bool, true, false}
-use mathlib.Core.List.{List, []}
-use lib.Dec.{ltb, eqb}
+use Prim.Native.Nat.{ℕ, _+_, _/_, _%_, _≤_, _<_}
+use mathlib.Core.Path.{_≡_, sym, ap, _∙_}
+use mathlib.Core.List.{List}
+use lib.Dec.{eqb}
 use lib.ListN.{length, getD, List·getD-eq-default}
 use borrow.Author.Tests.{lt-ltb, le-ltb}
-use Rattle.definitions.specs.Image.{modeOf, parametersOf, localsOf, Procedure, Image, guarded, procedureAt}
+use Rattle.definitions.specs.Image.{modeOf, parametersOf, localsOf, guarded, procedureAt}
 use Rattle.definitions.specs.Sorts.{sortOf}
-use Rattle.signatures.specs.Signatures.{imageIn, Signature, Signed}
+use Rattle.laws.specs.ImageIn.{imageIn}
+use Rattle.signatures.specs.Signatures.{Signature, Signed}
 
 pub past-end : (words : List ℕ) (i : ℕ) → length words ≤ i → 0 ≡ getD words i 0
 past-end words i h = sym (List·getD-eq-default words 0 h)

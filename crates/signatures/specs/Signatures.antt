@@ -1,20 +1,11 @@
 -- What a call has to know of the procedure that it names, found in the image's words through a table of the procedures' places.
 -- Assumes nothing.
-use Prim.Native.Nat.{ℕ, zero, suc, _+_, _≤_, _<_}
+use Prim.Native.Nat.{ℕ, _+_, _<_}
 use mathlib.Core.Path.{_≡_}
-use mathlib.Core.Bool.{Bool, true, false}
-use mathlib.Core.List.{List, []}
+use mathlib.Core.List.{List}
 use lib.ListN.{length, getD}
-use Rattle.definitions.specs.Image.{modeOf, parametersOf, localsOf, Procedure, Image, procedureAt}
-use Rattle.definitions.specs.Reading.{readImage}
-use Rattle.opening.specs.Parses.{treeOr}
-
-abbrev pub noImage : Image
-noImage = record { form = 0; arrays = []; procedures = [] }
-
--- the image that words spell
-unfoldable pub imageIn : List ℕ → Image
-imageIn words = treeOr noImage (readImage true words)
+use Rattle.definitions.specs.Image.{modeOf, parametersOf, localsOf, Procedure, procedureAt}
+use Rattle.laws.specs.ImageIn.{imageIn}
 
 -- a procedure's word, its result's type word and the type words of its variables stand in the image, from its place on
 pub record Signature (words : List ℕ) (place : ℕ) (p : Procedure) : Type 0 where

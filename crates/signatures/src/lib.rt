@@ -4,7 +4,8 @@ ghost use Prim.Native.Nat.{ℕ, _≤_, _<_, _+_};
 ghost use lib.ListN.{getD, length};
 ghost use Rattle.definitions.specs.Image.{parametersOf, localsOf, procedureAt, guarded};
 ghost use Rattle.definitions.specs.Sorts.{sortOf};
-ghost use Rattle.signatures.specs.Signatures.{imageIn, Signed};
+ghost use Rattle.laws.specs.ImageIn.{imageIn};
+ghost use Rattle.signatures.specs.Signatures.{Signed};
 
 fn wide(x: u32) -> usize
     ensures { λ r. ⌜ (r ≡ x) × (r < 4294967296) ⌝ }

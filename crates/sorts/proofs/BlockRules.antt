@@ -1,21 +1,22 @@
 -- Rules for blocks and the statements that hold blocks. Assumes nothing.
-use Prim.Native.Nat.{ℕ, zero, suc, _+_, _-_, _/_, _%_, _≤_, _<_}
+use Prim.Native.Nat.{ℕ, suc, _+_, _-_, _≤_, _<_}
 use native.Mathlib.Omega.{arith}
-use mathlib.Core.Path.{_≡_, refl, sym, ap, _∙_}
-use mathlib.Core.Bool.{Bool, true, false}
-use mathlib.Core.List.{List, [], _∷_, _++_}
+use mathlib.Core.Path.{_≡_, sym, _∙_}
+use mathlib.Core.Bool.{true}
+use mathlib.Core.List.{List}
 use lib.Dec.{leb}
 use lib.ListN.{length, getD, set}
 use lib.Seq.{set-out, set-set, set-getD}
 use Rattle.definitions.specs.declared.Fault.{Fault}
-use Rattle.definitions.specs.Image.{payloadOf, opOf, targetOf, Expression, Statement, conditional, loop, Block, done, step, Procedure}
-use Rattle.definitions.specs.Reading.{Parse, got, refused, readExpression, readStatement, readBlock, readStatements}
+use Rattle.definitions.specs.Image.{payloadOf, opOf, targetOf, Expression, Statement, conditional, loop, Block}
+use Rattle.definitions.specs.Image.{sequence, Procedure}
+use Rattle.definitions.specs.Reading.{got, readExpression, readStatement, readBlock, readStatements}
 use Rattle.definitions.specs.Faults.{least, faultIf}
-use Rattle.definitions.specs.Sorts.{operandFaults, loopFault, statementSortFaults, blockSortFaults}
+use Rattle.definitions.specs.Sorts.{loopFault, statementSortFaults, blockSortFaults}
 use Rattle.laws.specs.Least.{least-append}
-use Rattle.opening.specs.Parses.{ok, ok-of, got-ok}
-use Rattle.opening.specs.Statements.{open-statement, open-block, open-none, open-more, open-if, open-for}
-use Rattle.opening.specs.Places.{statement-ends}
+use Rattle.laws.specs.Parses.{ok, ok-of}
+use Rattle.laws.specs.StatementInversion.{open-statement, open-block, open-more, open-if, open-for}
+use Rattle.laws.specs.Places.{statement-ends}
 use Rattle.sorts.specs.declared.expressions.Sorted.{Sorted}
 use Rattle.sorts.specs.declared.leaves.Walked.{Walked}
 use Rattle.sorts.specs.Walk.{operandSorted, statementsAt, statementWalked, blockWalked}
@@ -104,7 +105,7 @@ module _ (level : ℕ) (params : List ℕ) (me : ℕ) (image : List ℕ) where
         where
           go : (s : Statement) (n : ℕ) (b : Block) (m : ℕ) → readStatement (level - 1) params me image a ≡ got s n
               → readStatements (count - (k + 1)) (λ b. readStatement (level - 1) params me image b) n ≡ got b m
-              → readStatements (suc (count - (k + 1))) (λ b. readStatement (level - 1) params me image b) a ≡ got (step a s b) m
+              → readStatements (suc (count - (k + 1))) (λ b. readStatement (level - 1) params me image b) a ≡ got (sequence a s b) m
               → blockWalked ps parameters types result arrays marks (w .best) (readStatements (count - (k + 1)) (λ b. readStatement (level - 1) params me image b) (w .next))
               ≡ blockWalked ps parameters types result arrays marks found (readStatements (count - k) (λ b. readStatement (level - 1) params me image b) a)
           go s n b m r y z = rw (more-left count k h, z, q, r, y) (simp least-append)

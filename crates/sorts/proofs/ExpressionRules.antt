@@ -1,22 +1,22 @@
 -- Rules for the walk of an expression: what each way of returning gives, and what each call asks. Assumes nothing.
-use Prim.Native.Nat.{ℕ, zero, suc, _+_, _-_, _/_, _%_, _≤_, _<_}
-use native.Mathlib.Omega.{arith}
-use mathlib.Core.Path.{_≡_, refl, sym, ap, _∙_}
-use mathlib.Core.Bool.{Bool, true, false, not, _&&_}
-use mathlib.Core.List.{List, [], _∷_, _++_}
-use lib.Dec.{ltb, leb, eqb}
+use Prim.Native.Nat.{ℕ, _+_, _-_, _≤_, _<_}
+use mathlib.Core.Path.{_≡_, sym, ap, _∙_}
+use mathlib.Core.Bool.{true}
+use mathlib.Core.List.{List}
+use lib.Dec.{leb, eqb}
 use lib.ListN.{length, getD}
 use Rattle.definitions.specs.declared.Fault.{Fault}
-use Rattle.definitions.specs.Image.{kindOf, payloadOf, expressionWord, Expression, constant, boolean, variable, cell, unary, binary, select, placeOf}
-use Rattle.definitions.specs.Reading.{Parse, got, refused, readExpression}
+use Rattle.definitions.specs.Image.{kindOf, payloadOf, Expression, cell, unary, binary, select, placeOf}
+use Rattle.definitions.specs.Reading.{Parse, got, readExpression}
 use Rattle.definitions.specs.Faults.{least, faultIf}
 use Rattle.definitions.specs.Operators.{operator, unaryOperand, unaryResult}
-use Rattle.definitions.specs.Sorts.{sortOf, sortIn, sortFaults, wrongSort, operandFaults}
+use Rattle.definitions.specs.Sorts.{sortOf, sortIn, sortFaults, wrongSort}
 use Rattle.laws.specs.Least.{least-append}
-use Rattle.opening.specs.Parses.{ok, ok-of, got-ok}
-use Rattle.opening.specs.Words.{binary-limit}
-use Rattle.opening.specs.Expressions.{open-expression, open-constant, open-raw, open-boolean, open-variable, open-cell, open-unary, open-binary, open-select, last-kind}
-use Rattle.opening.specs.Places.{place-of, expression-within}
+use Rattle.laws.specs.Parses.{ok, ok-of, got-ok}
+use Rattle.laws.specs.WordTests.{binary-limit}
+use Rattle.laws.specs.ExpressionInversion.{open-expression, open-constant, open-raw, open-boolean, open-variable}
+use Rattle.laws.specs.ExpressionInversion.{open-cell, open-unary, open-binary, open-select}
+use Rattle.laws.specs.Places.{place-of}
 use Rattle.sorts.specs.declared.expressions.Sorted.{Sorted}
 use Rattle.sorts.specs.Walk.{sorted, operandSorted}
 

@@ -1,18 +1,21 @@
 -- Rules for marking: the ends of parts, and the marks that a block leaves. Assumes nothing.
-use Prim.Native.Nat.{ℕ, zero, suc, _+_, _-_, _/_, _%_, _≤_, _<_}
+use Prim.Native.Nat.{ℕ, suc, _+_, _-_, _≤_, _<_}
 use native.Mathlib.Omega.{arith}
-use mathlib.Core.Path.{_≡_, refl, sym, ap, _∙_}
-use mathlib.Core.Bool.{Bool, true, false}
-use mathlib.Core.List.{List, [], _∷_}
+use mathlib.Core.Path.{_≡_, ap, _∙_}
+use mathlib.Core.Bool.{true}
+use mathlib.Core.List.{List, _∷_}
 use lib.ListN.{length, getD, set}
 use Rattle.definitions.specs.declared.Fault.{Fault}
-use Rattle.definitions.specs.Image.{payloadOf, opOf, targetOf, calledOf, resultOf, Expression, Statement, assign, store, conditional, loop, return, call, Block, done, step}
-use Rattle.definitions.specs.Reading.{Parse, got, refused, readExpression, readArguments, readStatement, readBlock, readStatements}
+use Rattle.definitions.specs.Image.{payloadOf, opOf, targetOf, calledOf, resultOf, Expression, Statement, assign, store}
+use Rattle.definitions.specs.Image.{conditional, loop, return, call, Block, sequence}
+use Rattle.definitions.specs.Reading.{Parse, got, readExpression, readArguments, readStatement, readBlock}
+use Rattle.definitions.specs.Reading.{readStatements}
 use Rattle.definitions.specs.Sorts.{markStatement, markBlock}
-use Rattle.opening.specs.Parses.{ok, ok-of, got-ok, endOf, end-of}
-use Rattle.opening.specs.Expressions.{open-argument}
-use Rattle.opening.specs.Statements.{open-block, open-more, open-assign, open-store, open-if, open-for, open-return, open-call, last-op}
-use Rattle.opening.specs.Places.{expression-within, statement-ends}
+use Rattle.laws.specs.Parses.{ok, ok-of, got-ok, endOf}
+use Rattle.laws.specs.ExpressionInversion.{open-argument}
+use Rattle.laws.specs.StatementInversion.{open-block, open-more, open-assign, open-store, open-if, open-for}
+use Rattle.laws.specs.StatementInversion.{open-return, open-call}
+use Rattle.laws.specs.Places.{expression-within, statement-ends}
 use Rattle.sorts.specs.declared.expressions.Sorted.{Sorted}
 use Rattle.sorts.specs.Walk.{sorted, argumentsAt, statementsAt}
 use Rattle.sorts.specs.Marking.{statementMarks, blockMarks}
@@ -221,7 +224,7 @@ module _ (level : ℕ) (params : List ℕ) (me : ℕ) (image : List ℕ) where
       where
         go : (s : Statement) (o : ℕ) (b : Block) (m : ℕ) → readStatement (level - 1) params me image a ≡ got s o
             → readStatements (count - (k + 1)) (λ b. readStatement (level - 1) params me image b) o ≡ got b m
-            → readStatements (suc (count - (k + 1))) (λ b. readStatement (level - 1) params me image b) a ≡ got (step a s b) m
+            → readStatements (suc (count - (k + 1))) (λ b. readStatement (level - 1) params me image b) a ≡ got (sequence a s b) m
             → (n ≤ length image) × (ok (readStatements (count - (k + 1)) (λ b. readStatement (level - 1) params me image b) n) ≡ true)
             × (blockMarks (readStatements (count - (k + 1)) (λ b. readStatement (level - 1) params me image b) n) m1
             ≡ blockMarks (readStatements (count - k) (λ b. readStatement (level - 1) params me image b) a) marks)

@@ -1,22 +1,22 @@
 -- Rules for the statements that hold no block: what each way of returning gives, and what each call asks. Assumes nothing.
-use Prim.Native.Nat.{ℕ, zero, suc, _+_, _-_, _/_, _%_, _≤_, _<_}
+use Prim.Native.Nat.{ℕ, suc, _+_, _-_, _/_, _%_, _≤_, _<_}
 use native.Mathlib.Omega.{arith}
-use native.Mathlib.Numerals.{add-one}
-use mathlib.Core.Path.{_≡_, refl, sym, ap, _∙_}
-use mathlib.Core.Bool.{Bool, true, false, not, _&&_, _||_}
-use mathlib.Core.List.{List, [], _∷_, _++_}
+use mathlib.Core.Path.{_≡_}
+use mathlib.Core.Bool.{true, not, _||_}
+use mathlib.Core.List.{List, _∷_}
 use lib.Dec.{ltb, leb, eqb}
 use lib.ListN.{length, getD}
 use Rattle.definitions.specs.declared.Fault.{Fault}
-use Rattle.definitions.specs.Image.{typeSort, typeSecret, opOf, targetOf, calledOf, resultOf, Expression, placeOf, Statement, assign, store, conditional, loop, return, call, Block, done, step, Procedure, procedureAt}
-use Rattle.definitions.specs.Reading.{Parse, got, refused, readExpression, readArguments, readStatement, readBlock, readStatements}
+use Rattle.definitions.specs.Image.{typeSort, opOf, targetOf, calledOf, resultOf, Expression, assign, store, return}
+use Rattle.definitions.specs.Image.{call, Procedure, procedureAt}
+use Rattle.definitions.specs.Reading.{got, readExpression, readArguments, readStatement}
 use Rattle.definitions.specs.Faults.{least, faultIf}
-use Rattle.definitions.specs.Sorts.{sortOf, sortIn, sortFaults, wrongSort, operandFaults, argumentFaults, loopFault, statementSortFaults}
+use Rattle.definitions.specs.Sorts.{sortOf, wrongSort, argumentFaults, loopFault, statementSortFaults}
 use Rattle.laws.specs.Least.{least-append}
-use Rattle.opening.specs.Parses.{ok, ok-of, got-ok}
-use Rattle.opening.specs.Expressions.{open-no-argument, open-argument}
-use Rattle.opening.specs.Statements.{open-statement, open-assign, open-store, open-return, open-call}
-use Rattle.opening.specs.Places.{expression-within}
+use Rattle.laws.specs.Parses.{ok, ok-of}
+use Rattle.laws.specs.ExpressionInversion.{open-argument}
+use Rattle.laws.specs.StatementInversion.{open-assign, open-store, open-return, open-call}
+use Rattle.laws.specs.Places.{expression-within}
 use Rattle.sorts.specs.declared.expressions.Sorted.{Sorted}
 use Rattle.sorts.specs.declared.leaves.Walked.{Walked}
 use Rattle.sorts.specs.Walk.{operandSorted, targetNoted, argumentsAt, argumentsWalked, statementWalked}

@@ -1,14 +1,15 @@
 -- What the walk of a part that was read gives: what the definitions say of its tree, and the place after it. Assumes nothing.
 use Prim.Native.Nat.{ℕ}
-use mathlib.Core.Bool.{Bool, not}
-use mathlib.Core.List.{List, _++_}
+use mathlib.Core.Bool.{not}
+use mathlib.Core.List.{List}
 use lib.Dec.{leb, eqb}
 use lib.ListN.{length, getD}
 use Rattle.definitions.specs.declared.Fault.{Fault}
-use Rattle.definitions.specs.Image.{Expression, placeOf, Statement, Block, Procedure}
+use Rattle.definitions.specs.Image.{Expression, Statement, Block, Procedure}
 use Rattle.definitions.specs.Reading.{Parse, got, refused, readExpression, readArguments, readStatement, readStatements}
 use Rattle.definitions.specs.Faults.{least, faultIf}
-use Rattle.definitions.specs.Sorts.{sortIn, sortFaults, operandFaults, argumentFaults, statementSortFaults, blockSortFaults, markStatement, markBlock}
+use Rattle.definitions.specs.Sorts.{sortIn, sortFaults, operandFaults, argumentFaults, statementSortFaults}
+use Rattle.definitions.specs.Sorts.{blockSortFaults}
 use Rattle.sorts.specs.declared.expressions.Sorted.{Sorted}
 use Rattle.sorts.specs.declared.leaves.Walked.{Walked}
 

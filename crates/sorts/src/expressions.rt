@@ -10,7 +10,7 @@ ghost use Rattle.definitions.specs.Reading.{readExpression};
 ghost use Rattle.definitions.specs.Faults.{least, faultIf};
 ghost use Rattle.definitions.specs.Operators.{unaryOperand, unaryResult};
 ghost use Rattle.definitions.specs.Sorts.{sortOf, wrongSort};
-ghost use Rattle.opening.specs.Parses.{ok};
+ghost use Rattle.laws.specs.Parses.{ok};
 ghost use Rattle.sorts.specs.Walk.{sorted, operandSorted};
 
 // What the walk of an expression gives: its sort (0 word, 1 boolean, 2 unknown), the place after it, the lowest fault so far.

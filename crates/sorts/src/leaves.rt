@@ -13,8 +13,9 @@ ghost use Rattle.definitions.specs.Image.{opOf, targetOf, calledOf, resultOf, p
 ghost use Rattle.definitions.specs.Reading.{readExpression, readStatement};
 ghost use Rattle.definitions.specs.Faults.{least, faultIf};
 ghost use Rattle.definitions.specs.Sorts.{sortOf, loopFault};
-ghost use Rattle.opening.specs.Parses.{ok};
-ghost use Rattle.signatures.specs.Signatures.{imageIn, Signed};
+ghost use Rattle.laws.specs.Parses.{ok};
+ghost use Rattle.laws.specs.ImageIn.{imageIn};
+ghost use Rattle.signatures.specs.Signatures.{Signed};
 ghost use Rattle.sorts.specs.Walk.{statementWalked, argumentsWalked, argumentsAt, targetNoted};
 
 // What the walk of a statement or block gives: the place after it, the lowest fault so far.

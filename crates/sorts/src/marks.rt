@@ -9,7 +9,7 @@ ghost use Prim.Native.Nat.{ℕ, _+_, _≤_, _<_};
 ghost use lib.ListN.{getD, length, set};
 ghost use Rattle.definitions.specs.Image.{opOf};
 ghost use Rattle.definitions.specs.Reading.{readExpression, readStatement, readBlock};
-ghost use Rattle.opening.specs.Parses.{ok, endOf};
+ghost use Rattle.laws.specs.Parses.{ok, endOf};
 ghost use Rattle.sorts.specs.Walk.{argumentsAt};
 ghost use Rattle.sorts.specs.Marking.{statementMarks, blockMarks};
 

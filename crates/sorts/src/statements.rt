@@ -14,8 +14,9 @@ ghost use Prim.Native.Nat.{ℕ, _+_, _≤_, _<_};
 ghost use lib.ListN.{getD, length, set};
 ghost use Rattle.definitions.specs.Image.{opOf};
 ghost use Rattle.definitions.specs.Reading.{readStatement, readBlock};
-ghost use Rattle.opening.specs.Parses.{ok};
-ghost use Rattle.signatures.specs.Signatures.{imageIn, Signed};
+ghost use Rattle.laws.specs.Parses.{ok};
+ghost use Rattle.laws.specs.ImageIn.{imageIn};
+ghost use Rattle.signatures.specs.Signatures.{Signed};
 ghost use Rattle.sorts.specs.Walk.{statementWalked, blockWalked};
 
 // What the fors make of a variable, from here on; past the table nothing is kept.

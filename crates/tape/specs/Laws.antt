@@ -1,7 +1,7 @@
 -- Laws of the tape: words in runs, a word written again, and what the output holds in the end. Assumes nothing.
-use Prim.Native.Nat.{ℕ, zero, suc, _+_, _≤_, _<_, _-_}
+use Prim.Native.Nat.{ℕ, _+_, _≤_, _<_}
 use mathlib.Core.Bool.{Bool, true, false}
-use mathlib.Core.Path.{_≡_, refl, ap, sym, _∙_}
+use mathlib.Core.Path.{_≡_, refl, _∙_}
 use mathlib.Core.List.{List, [], _∷_, _++_}
 use native.Mathlib.Omega.{arith}
 use native.Mathlib.Numerals.{add-one}
@@ -10,8 +10,7 @@ use lib.Dec.{ltb}
 use lib.ListN.{length, set, drop}
 use lib.Seq.{set-set, set-comm, sets, sets-eq}
 use borrow.Author.Tests.{ltb-true, ltb-false, lt-ltb, le-ltb}
-use Rattle.definitions.specs.Choice.{pick}
-use Rattle.tape.specs.Tape.{Tape, bump, write, writes}
+use Rattle.tape.specs.Tape.{Tape, write, writes}
 
 pub writes-nil : (o : ℕ) (out : List ℕ) → writes o out [] ≡ (o, out)
 unfolding writes

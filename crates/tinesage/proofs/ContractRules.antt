@@ -1,12 +1,12 @@
 -- Each contract from that of the request on bytes and of the answer's layout. Assumes nothing.
-use mathlib.Core.Path.{_≡_, refl, sym, ap, _∙_}
+use mathlib.Core.Path.{_≡_, ap, _∙_}
 use mathlib.Core.List.{List}
 use Prim.Native.Nat.{ℕ, _<_}
 use Rattle.definitions.specs.declared.Answer.{Answer}
 use Rattle.definitions.specs.declared.Checked.{Checked}
 use Rattle.definitions.specs.declared.Compiled.{Compiled}
 use Rattle.definitions.specs.Host.{checkBytes, compileBytes, answerWords, checkedWords, compiledWords, answerBytes}
-use Rattle.places.specs.Named.{checkedPlace, compiledPlace}
+use Rattle.results.specs.Named.{checkedPlace, compiledPlace}
 use Rattle.translation.specs.PlacesBelow.{check-place, compile-place}
 use Rattle.serving.specs.Served.{Answered, AnsweredCall}
 

@@ -4,7 +4,8 @@ use mathlib.Core.Path.{_≡_}
 use mathlib.Core.List.{List}
 use Prim.Native.Nat.{ℕ}
 use Rattle.definitions.specs.declared.Answer.{Answer}
-use Rattle.definitions.specs.Host.{loadBytes, clearBytes, pokeBytes, peekBytes, callBytes, checkBytes, compileBytes, answerWords, checkedWords, compiledWords, answerBytes}
+use Rattle.definitions.specs.Host.{loadBytes, clearBytes, pokeBytes, peekBytes, callBytes, checkBytes, compileBytes}
+use Rattle.definitions.specs.Host.{answerWords, checkedWords, compiledWords, answerBytes}
 
 -- the slice lent for the answer holds the answer's seven words, where there is room for them
 abbrev pub Answers : Answer → List ℕ → List ℕ → Type 0

@@ -1,5 +1,5 @@
 -- What each way out of `note` gives. Assumes nothing.
-use mathlib.Core.Path.{_≡_, refl}
+use mathlib.Core.Path.{_≡_}
 use mathlib.Core.List.{List}
 use Prim.Native.Nat.{ℕ, _+_, _-_, _*_, _≤_, _<_}
 use native.Mathlib.Omega.{arith}
@@ -8,7 +8,6 @@ use lib.ListN.{length}
 use lib.Seq.{sets}
 use Rattle.definitions.specs.Bytes.{word4}
 use Rattle.definitions.specs.Running.{emit}
-use Rattle.tracing.specs.declared.Value.{Value}
 use Rattle.tracing.specs.declared.Value.the-variants.{Got, Stop}
 use Rattle.tracing.specs.Log.{log, byteTrace}
 use Rattle.tracing.specs.Answers.{evaluation, until}

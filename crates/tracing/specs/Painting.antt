@@ -10,9 +10,9 @@ use lib.Dec.{ltb}
 use lib.ListN.{length, drop, length-append, length-drop}
 use lib.Seq.{sets, sets-eq, take-at, drop-append-add, drop-drop}
 use Rattle.definitions.specs.Bytes.{word4, bytesOf, lent}
-use Rattle.definitions.specs.Image.{Expression, Procedure}
-use Rattle.definitions.specs.Running.{Trace, traceWords, Evaluated, Ran, Given, runProcedure}
-use Rattle.tracing.specs.Log.{Log, log, noRoom, entered, byteTrace}
+use Rattle.definitions.specs.Image.{Procedure}
+use Rattle.definitions.specs.Running.{traceWords, runProcedure}
+use Rattle.tracing.specs.Log.{Log, log, byteTrace}
 use Rattle.tracing.specs.Renaming.{mapRan, procedure-same}
 
 -- trace words written over the front of the lent bytes

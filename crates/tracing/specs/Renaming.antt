@@ -1,7 +1,7 @@
 -- A run over one kind of trace is the image of the run over another, where a function takes the one's traces to the other's
 -- and keeps what is asked of a trace: whether it is full, and what an entry adds to one that is not.
 -- Assumes nothing.
-use mathlib.Core.Path.{_≡_, refl, sym, ap, _∙_}
+use mathlib.Core.Path.{_≡_, refl}
 use Prim.Native.Nat.{ℕ, zero, suc, _+_, _-_, _*_}
 use mathlib.Core.Bool.{Bool, true, false, _||_}
 use mathlib.Core.List.{List, [], _∷_}
@@ -10,8 +10,13 @@ use lib.ListN.{getD, set}
 use Rattle.definitions.specs.Choice.{pick}
 use Rattle.definitions.specs.Arithmetic.{truth}
 use Rattle.definitions.specs.Operators.{applyBinary, applyUnary}
-use Rattle.definitions.specs.Image.{arrayLength, baseOf, Expression, constant, boolean, variable, cell, unary, binary, select, Statement, assign, store, conditional, loop, return, call, Block, done, step, Procedure, procedureAt}
-use Rattle.definitions.specs.Running.{Trace, Evaluated, value, stop, Ran, on, halt, bind, within, andGo, emit, inArray, indexAt, divided, operated, evaluate, evaluateAll, Outcome, next, back, Given, gave, Callee, Body, tick, after, passes, taken, received, runStatement, runBlock, frame, finish, runProcedure}
+use Rattle.definitions.specs.Image.{arrayLength, baseOf, Expression, constant, boolean, variable, cell, unary, binary}
+use Rattle.definitions.specs.Image.{select, Statement, assign, store, conditional, loop, return, call, Block, done}
+use Rattle.definitions.specs.Image.{sequence, Procedure, procedureAt}
+use Rattle.definitions.specs.Running.{Trace, Evaluated, value, stop, Ran, on, halt, bind, within, andGo, emit, inArray}
+use Rattle.definitions.specs.Running.{indexAt, divided, operated, evaluate, evaluateAll, Outcome, next, back, Given}
+use Rattle.definitions.specs.Running.{gave, Callee, Body, tick, after, passes, taken, received, runStatement, runBlock}
+use Rattle.definitions.specs.Running.{frame, finish, runProcedure}
 
 -- an evaluation's trace renamed
 unfoldable pub mapEvaluated : {T U A : Type 0} → (T → U) → Evaluated T A → Evaluated U A
@@ -196,7 +201,7 @@ module _ {T U : Type 0} (C : Trace T) (D : Trace U) (h : T → U)
       pub block-same : (b : Block) (z : ℕ) (t : T) (vs cs : List ℕ)
           → runBlock D budget arrays L b z (h t) vs cs ≡ mapRan h (runBlock C budget arrays K b z t vs cs)
       block-same done z t vs cs = on-same h (next vs cs) z t
-      block-same (step l s b) z t vs cs =
+      block-same (sequence l s b) z t vs cs =
           tick-same h budget l z t _ _
           (λ y u. andGo-same h _ _ _ _ (statement-same l s y u vs cs) (after-same h _ _ (λ w v us ds. block-same b w v us ds)))
 

@@ -11,19 +11,19 @@ use lib.Seq.{length-take-le, take-at, take-take}
 use Rattle.definitions.specs.Choice.{pick}
 use Rattle.definitions.specs.Bytes.{wordsOf, bytesOf, lent}
 use Rattle.definitions.specs.Image.{Image}
-use Rattle.definitions.specs.Reading.{Parse, got, refused, readImage}
-use Rattle.definitions.specs.Checking.{faultOf, checked}
+use Rattle.definitions.specs.Reading.{Parse, got, refused}
+use Rattle.definitions.specs.Checking.{admitted, checked}
 use Rattle.definitions.specs.Encoding.{imageWords}
 use Rattle.definitions.specs.Compiling.{compiledImage, fitLocals, fits, written, compiledTree, compiled}
-use Rattle.definitions.specs.Host.{wholeWords, checkBytes, compileBytes}
+use Rattle.definitions.specs.Host.{checkBytes, compileBytes}
 use Rattle.definitions.specs.declared.Checked.{Checked}
 use Rattle.definitions.specs.declared.Compiled.{Compiled}
 use Rattle.definitions.specs.declared.Compiled.the-variants.{Written, Refused}
-use Rattle.opening.specs.Words.{and-right}
+use Rattle.laws.specs.Tests.{and-right}
 use Rattle.requests.specs.LentCells.{lent-front}
 use Rattle.words.proofs.Laws.{Bytes, length-wordsOf, lent-wordsOf}
 use Rattle.translation.specs.Counts.{countOf, Output, placed, count-within}
-use Rattle.translation.specs.PlacesBelow.{front, admitted, check-front, compile-front}
+use Rattle.translation.specs.PlacesBelow.{front, wholeAndShort, check-front, compile-front}
 
 -- what hand_over leaves in the lent bytes
 abbrev handed : List ℕ → Output → Output
@@ -71,13 +71,12 @@ module _ (b old : List ℕ) (h : Bytes b) (room : length old ≡ min (length b /
   tree-on : (x : Parse Image) → handed b (compiledTree x old) ≡ onBytes b (compiledTree x (wordsOf b))
   unfolding compiledTree
   tree-on (refused n p) = refused-stays n p
-  tree-on (got image n) = go (eqb (faultOf image .number) 0) (eqb (image .form) 0)
+  tree-on (got image n) = go (eqb (image .form) 0)
     where
-      go : (t s : Bool) → handed b (pick t (pick s (written (compiledImage image) old) (Refused 14 0, old)) (Refused (faultOf image .number) (faultOf image .place), old))
-          ≡ onBytes b (pick t (pick s (written (compiledImage image) (wordsOf b)) (Refused 14 0, wordsOf b)) (Refused (faultOf image .number) (faultOf image .place), wordsOf b))
-      go true true = written-on (compiledImage image)
-      go true false = refused-stays 14 0
-      go false s = refused-stays (faultOf image .number) (faultOf image .place)
+      go : (s : Bool) → handed b (pick s (written (compiledImage image) old) (Refused 14 0, old))
+          ≡ onBytes b (pick s (written (compiledImage image) (wordsOf b)) (Refused 14 0, wordsOf b))
+      go true = written-on (compiledImage image)
+      go false = refused-stays 14 0
 
 -- ---- the words of a part of a slice
 
@@ -101,7 +100,7 @@ module _ (a : Compiled) (result b : List ℕ) where
 
 -- ---- the two functions
 
-pub checked-bytes : (image part : List ℕ) (whole : Bool) (r : Checked) → part ≡ front image → whole ≡ admitted image → r ≡ checked whole part
+pub checked-bytes : (image part : List ℕ) (whole : Bool) (r : Checked) → part ≡ front image → whole ≡ wholeAndShort image → r ≡ checked whole part
     → r ≡ checkBytes image
 checked-bytes image part whole r e w d = d ∙ check-front image part whole e w
 
@@ -113,19 +112,18 @@ module _ (part b result after : List ℕ) (whole : Bool) (room : ℕ) (a : Compi
   count-few : countOf a ≤ room
   unfolding compiled
   count-few =
-      let m : countOf (compiled whole part (take room result) .0) ≤ length (take room result) = count-within (readImage whole part) (take room result) in
+      let m : countOf (compiled whole part (take room result) .0) ≤ length (take room result) = count-within (admitted whole part) (take room result) in
       let e : countOf a ≡ countOf (compiled whole part (take room result) .0) = ap (λ (x : Output). countOf (x .0)) q in
       let s = size in omega arith
 
   pub hand-over-asks : (countOf a ≤ 16384) × (4 * countOf a ≤ length b)
   hand-over-asks = let c = count-few in (omega arith, omega arith)
 
-  pub compiled-bytes : (image : List ℕ) → Bytes b → part ≡ front image → whole ≡ admitted image → (r : Compiled) (left : List ℕ) → r ≡ a
+  pub compiled-bytes : (image : List ℕ) → Bytes b → part ≡ front image → whole ≡ wholeAndShort image → (r : Compiled) (left : List ℕ) → r ≡ a
       → left ≡ bytesOf (take (countOf a) after) ++ drop (4 * countOf a) b → _≡_ {A = Output} (r, left) (compileBytes image b)
   unfolding compileBytes compiled
   compiled-bytes image h e w r left ra l =
       let same : take (countOf a) (take room after) ≡ take (countOf a) after = take-take (countOf a) room after count-few in
       let mine : _≡_ {A = Output} (r, left) (handed b (a, take room after)) = rw (ra, l, same) in
-      let other : compiledTree (readImage whole part) (wordsOf b) ≡ compiledTree (readImage (wholeWords image) (wordsOf image)) (wordsOf b) =
-      compile-front image part (wordsOf b) whole e w in
-      mine ∙ ap (handed b) q ∙ tree-on b (take room result) h (size ∙ space) (readImage whole part) ∙ ap (onBytes b) other
+      let other = compile-front image part (wordsOf b) whole e w in
+      mine ∙ ap (handed b) q ∙ tree-on b (take room result) h (size ∙ space) (admitted whole part) ∙ ap (onBytes b) other

@@ -10,8 +10,8 @@ use lib.ListN.{length, drop}
 use Rattle.definitions.specs.Choice.{pick}
 use Rattle.definitions.specs.Bytes.{wordsOf}
 use Rattle.definitions.specs.Image.{Image}
-use Rattle.definitions.specs.Reading.{Parse, got, refused, readImage}
-use Rattle.definitions.specs.Checking.{faultOf}
+use Rattle.definitions.specs.Reading.{Parse, got, refused}
+use Rattle.definitions.specs.Checking.{admitted}
 use Rattle.definitions.specs.Encoding.{imageWords}
 use Rattle.definitions.specs.Compiling.{compiledImage, fits, written, compiledTree, compiled}
 use Rattle.definitions.specs.Host.{wholeWords, compileBytes}
@@ -44,17 +44,15 @@ count-placed true ws out = go (leb (length ws) (length out)) refl
 pub count-within : (x : Parse Image) (out : List ℕ) → countOf (compiledTree x out .0) ≤ length out
 unfolding compiledTree written
 count-within (refused n p) out = omega arith
-count-within (got image n) out = go (eqb (faultOf image .number) 0) (eqb (image .form) 0)
+count-within (got image n) out = go (eqb (image .form) 0)
   where
-    go : (t s : Bool) → countOf (pick {A = Output} t (pick s (written (compiledImage image) out) (Refused 14 0, out)) (Refused (faultOf image .number) (faultOf image .place), out) .0) ≤ length out
-    go true true = count-placed (fits (compiledImage image)) (imageWords (compiledImage image)) out
-    go true false = omega arith
-    go false s = omega arith
+    go : (s : Bool) → countOf (pick {A = Output} s (written (compiledImage image) out) (Refused 14 0, out) .0) ≤ length out
+    go true = count-placed (fits (compiledImage image)) (imageWords (compiledImage image)) out
+    go false = omega arith
 
 -- the same for lent bytes
 pub compile-count : (image out : List ℕ) → countOf (compileBytes image out .0) ≤ length out / 4
 unfolding compileBytes compiled
 compile-count image out =
-    let h : countOf (compiledTree (readImage (wholeWords image) (wordsOf image)) (wordsOf out) .0) ≤ length (wordsOf out) =
-    count-within (readImage (wholeWords image) (wordsOf image)) (wordsOf out) in
+    let h = count-within (admitted (wholeWords image) (wordsOf image)) (wordsOf out) in
     rw length-wordsOf at h

@@ -12,7 +12,7 @@ use Rattle.definitions.specs.Bytes.{joined, wordsOf}
 use Rattle.definitions.specs.Compiling.{compiled}
 use Rattle.definitions.specs.Host.{wholeWords, compileBytes}
 use Rattle.words.proofs.Laws.{length-wordsOf}
-use Rattle.translation.specs.PlacesBelow.{front, admitted, compile-front}
+use Rattle.translation.specs.PlacesBelow.{front, wholeAndShort, compile-front}
 
 words-take : (n : ℕ) (b : List ℕ) → wordsOf (take (4 * n) b) ≡ take n (wordsOf b)
 unfolding wordsOf
@@ -29,28 +29,28 @@ words-take (suc n) b = rw (four n) (go b (words-take n))
     go (x ∷ y ∷ z ∷ []) more = refl
     go (x ∷ y ∷ z ∷ u ∷ c) more = ap (λ r. joined x y z u ∷ r) (more c)
 
-not-admitted : (a : Bool) (n : ℕ) → 16384 < n → a && leb n 16384 ≡ false
-not-admitted true n h = lt-leb n 16384 h
-not-admitted false n h = refl
+not-short : (a : Bool) (n : ℕ) → 16384 < n → a && leb n 16384 ≡ false
+not-short true n h = lt-leb n 16384 h
+not-short false n h = refl
 
 -- a longer image
 module _ (image : List ℕ) (h : 65540 < length image) where
   front-same : front (take 65540 image) ≡ front image
   front-same = ap (take 16384) (words-take 16385 image) ∙ take-take 16384 16385 (wordsOf image) (omega arith)
 
-  admitted-same : admitted (take 65540 image) ≡ admitted image
-  admitted-same =
+  same-test : wholeAndShort (take 65540 image) ≡ wholeAndShort image
+  same-test =
       let long : length (wordsOf image) ≡ length image / 4 = length-wordsOf image in
       let cut : length (wordsOf (take 65540 image)) ≡ 16385 = length-wordsOf (take 65540 image) ∙ ap (λ n. n / 4) (length-take-le 65540 image (omega arith)) in
-      not-admitted (wholeWords (take 65540 image)) (length (wordsOf (take 65540 image))) (omega arith)
-      ∙ sym (not-admitted (wholeWords image) (length (wordsOf image)) (omega arith))
+      not-short (wholeWords (take 65540 image)) (length (wordsOf (take 65540 image))) (omega arith)
+      ∙ sym (not-short (wholeWords image) (length (wordsOf image)) (omega arith))
 
   beyond : (out : List ℕ) → compileBytes (take 65540 image) out ≡ compileBytes image out
   unfolding compileBytes
   beyond out =
       let e : compiled (wholeWords (take 65540 image)) (wordsOf (take 65540 image)) (wordsOf out) ≡ compiled (wholeWords image) (wordsOf image) (wordsOf out) =
-      sym (compile-front (take 65540 image) (front image) (wordsOf out) (admitted image) (sym front-same) (sym admitted-same))
-      ∙ compile-front image (front image) (wordsOf out) (admitted image) refl refl in
+      sym (compile-front (take 65540 image) (front image) (wordsOf out) (wholeAndShort image) (sym front-same) (sym same-test))
+      ∙ compile-front image (front image) (wordsOf out) (wholeAndShort image) refl refl in
       rw e
 
 pub first-bytes : (image out : List ℕ) → compileBytes (take 65540 image) out ≡ compileBytes image out

@@ -7,7 +7,7 @@ use native.Mathlib.Nat.{le-of-eq}
 use native.Mathlib.Omega.{arith}
 use lib.ListN.{length, getD, take, drop, length-append, length-drop}
 use lib.Seq.{take-all, drop-at, length-take-le}
-use Rattle.definitions.specs.Bytes.{joined, wordAt, wordsOf, word4, bytesOf, lent}
+use Rattle.definitions.specs.Bytes.{joined, wordAt, wordsOf, bytesOf, lent}
 
 -- every element is a word, or a byte; past the end of a list stands 0, which is both
 abbrev pub Words : List ℕ → Type 0

@@ -2,8 +2,9 @@ use Prim.Native.Nat.{_-_, _≤_}
 use mathlib.Core.Path.{_≡_, refl}
 use mathlib.Core.Bool.{true}
 use lib.ListN.{length, drop}
-use Rattle.signatures.specs.Signatures.{imageIn}
-use Rattle.compiler.specs.Compile.{proceduresIn, eachOn}
+use Rattle.laws.specs.ImageIn.{proceduresIn}
+use Rattle.laws.specs.ImageIn.{imageIn}
+use Rattle.compiler.specs.Compile.{eachOn}
 use Rattle.compiler.proofs.Rules.{each-done, each-more}
 use borrow.Author.Needs.{needs}
 use Rattle.compiler.proofs.emit_each.Statement.{statement}

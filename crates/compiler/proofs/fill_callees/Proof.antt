@@ -3,7 +3,7 @@ use native.Mathlib.Omega.{arith}
 use mathlib.Core.Path.{_≡_}
 use lib.ListN.{length, getD}
 use Rattle.definitions.specs.Image.{procedureAt}
-use Rattle.compiler.specs.Compile.{proceduresIn}
+use Rattle.laws.specs.ImageIn.{proceduresIn}
 use Rattle.compiler.proofs.Image.{kept, fill-done, fill-low, fill-high, entry-is, entry-begins}
 use borrow.Author.Needs.{needs}
 use Rattle.compiler.proofs.fill_callees.Statement.{statement}

@@ -2,7 +2,7 @@ use native.Mathlib.Omega.{arith}
 use Prim.Native.Nat.{_*_, _+_, _-_, _≤_, ℕ, _<_}
 use mathlib.Core.Bool.{true}
 use mathlib.Core.Path.{_≡_}
-use Rattle.opening.specs.Parses.{ok, endOf}
+use Rattle.laws.specs.Parses.{ok, endOf}
 use Rattle.contexts.specs.Fine.{statementsLeft}
 use Rattle.definitions.specs.Reading.{readBlock}
 use Rattle.contexts.specs.Context.{passedBlock}

@@ -1,7 +1,7 @@
 use Prim.Native.Nat.{_-_, _≤_}
 use mathlib.Core.Bool.{true}
 use mathlib.Core.Path.{_≡_}
-use Rattle.opening.specs.Parses.{ok, endOf}
+use Rattle.laws.specs.Parses.{ok, endOf}
 use Rattle.contexts.specs.Fine.{argumentsLeft}
 use Rattle.contexts.proofs.Skipping.{skip-ready, skip-begin, skip-done, skip-fine, skip-again, skip-more}
 use borrow.Author.Needs.{needs}

@@ -1,5 +1,5 @@
 use Prim.Native.Nat.{_*_, _+_, ℕ, _<_}
-use Rattle.opening.specs.Expressions.{last-kind}
+use Rattle.laws.specs.ExpressionInversion.{last-kind}
 use Rattle.contexts.specs.Parts.{fine-raw, fine-cell, fine-unary, fine-binary, fine-read}
 use Rattle.copying.proofs.Rules.{condition-fine, copy·rules, select-fine, copy-select, second-fine, copy-two}
 use borrow.Author.Needs.{needs}

@@ -2,7 +2,7 @@ use Prim.Native.Nat.{_-_, _≤_}
 use mathlib.Core.Bool.{true}
 use mathlib.Core.Path.{_≡_}
 use lib.ListN.{length}
-use Rattle.opening.specs.Parses.{ok}
+use Rattle.laws.specs.Parses.{ok}
 use Rattle.contexts.specs.Fine.{argumentsLeft}
 use Rattle.copying.specs.Copy.{copiedArguments}
 use Rattle.copying.proofs.Row.{row-ready, row-begin, row-done, row-fine, row-again, row-more}

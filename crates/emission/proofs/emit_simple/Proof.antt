@@ -1,5 +1,5 @@
 use native.Mathlib.Omega.{arith}
-use Rattle.opening.specs.Statements.{last-op}
+use Rattle.laws.specs.StatementInversion.{last-op}
 use Rattle.contexts.specs.StatementParts.{fine-assign, fine-store, fine-return}
 use Rattle.emission.proofs.Simple.{simple-assign, simple-store, simple-return}
 use borrow.Author.Needs.{needs}

@@ -3,7 +3,7 @@ use native.Mathlib.Omega.{arith}
 use mathlib.Core.Bool.{true}
 use mathlib.Core.Path.{_≡_}
 use lib.ListN.{length}
-use Rattle.opening.specs.Parses.{ok, endOf}
+use Rattle.laws.specs.Parses.{ok, endOf}
 use Rattle.definitions.specs.Reading.{readBlock}
 use Rattle.contexts.specs.Fine.{statementsLeft}
 use Rattle.contexts.specs.StatementParts.{fine-if, fine-bounds}

@@ -4,7 +4,7 @@ use native.Mathlib.Omega.{arith}
 use lib.ListN.{drop, length}
 use Rattle.definitions.specs.Faults.{least}
 use Rattle.definitions.specs.Sorts.{proceduresSortFaults}
-use Rattle.signatures.specs.Signatures.{imageIn}
+use Rattle.laws.specs.ImageIn.{imageIn}
 use Rattle.checker.specs.Known.{known-at}
 use Rattle.checker.proofs.SortingRules.{sorts-begin, sorts-more, sorts-done}
 use borrow.Author.Needs.{needs}

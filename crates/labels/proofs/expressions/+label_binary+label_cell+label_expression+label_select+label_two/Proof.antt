@@ -2,7 +2,7 @@
 -- Assumes nothing.
 use Prim.Native.Nat.{_*_, _+_, ℕ, _<_}
 use Rattle.contexts.specs.Parts.{fine-cell, fine-unary}
-use Rattle.opening.specs.Expressions.{last-kind}
+use Rattle.laws.specs.ExpressionInversion.{last-kind}
 use Rattle.labels.proofs.ExpressionRules.{expression·rules, cell-labelled, operator-fine, left-fine, right-fine, binary-labelled, condition-fine, values-fine, select-labelled, second-fine, two-labelled}
 use borrow.Author.Needs.{needs}
 use borrow.Fn.Kinds.{In}

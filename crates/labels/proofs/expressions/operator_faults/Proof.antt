@@ -6,7 +6,6 @@ use Rattle.labels.proofs.expressions.operator_faults.Tie as tie
 
 pub operator-faults-spec : {M : Type 1} → statement M
 operator-faults-spec = tie.close (tie.spec
-    (λ c κs. search needs)  -- constant-at-requires
     (λ c κs. search needs)  -- value-at-requires
     (λ c κs. search needs)  -- note-requires
     (λ c κs. search needs)  -- note-requires-2

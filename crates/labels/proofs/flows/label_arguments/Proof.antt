@@ -3,7 +3,7 @@
 use Prim.Native.Nat.{_-_, _≤_}
 use mathlib.Core.Bool.{true}
 use mathlib.Core.Path.{_≡_}
-use Rattle.opening.specs.Parses.{ok}
+use Rattle.laws.specs.Parses.{ok}
 use Rattle.contexts.specs.Fine.{argumentsLeft}
 use Rattle.labels.specs.Flows.{arguedAll}
 use Rattle.labels.proofs.FlowRules.{arguments-ready, arguments-begin, arguments-done, argument-fine, arguments-again, arguments-more}

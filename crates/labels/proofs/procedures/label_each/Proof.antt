@@ -5,7 +5,7 @@ use mathlib.Core.Path.{_≡_}
 use lib.ListN.{drop}
 use Rattle.definitions.specs.Faults.{least}
 use Rattle.definitions.specs.Labels.{proceduresLabelFaults, imageLabelFaults}
-use Rattle.signatures.specs.Signatures.{imageIn}
+use Rattle.laws.specs.ImageIn.{imageIn}
 use Rattle.labels.proofs.ProcedureRules.{procedures-begin, procedures-done, procedures-more}
 use borrow.Author.Needs.{needs}
 use Rattle.labels.proofs.procedures.label_each.Statement.{statement}

@@ -5,12 +5,12 @@ use Prim.Native.Nat.{_*_, _+_, _-_, _≤_, ℕ, _<_}
 use mathlib.Core.Bool.{true}
 use mathlib.Core.Path.{_≡_, _∙_}
 use lib.ListN.{length}
-use Rattle.opening.specs.Parses.{ok}
-use Rattle.opening.specs.Statements.{last-op}
+use Rattle.laws.specs.ImageIn.{proceduresIn}
+use Rattle.laws.specs.Parses.{ok}
+use Rattle.laws.specs.StatementInversion.{last-op}
 use Rattle.definitions.specs.Reading.{readBlock}
 use Rattle.contexts.specs.Fine.{statementsLeft}
 use Rattle.contexts.specs.StatementParts.{fine-assign, fine-store, fine-return, fine-if, fine-bounds, fine-call}
-use Rattle.labels.specs.Callees.{proceduresIn}
 use Rattle.labels.specs.Blocks.{walkedBlock}
 use Rattle.labels.proofs.StatementRules.{walk-assign, walk-store, walk-return, walk-call, call-known, bound-back, walk-body, then-fine, else-fine, walk-if, body-fine, walk-for, statement-fine, block-ready, block-begin, block-done, block-more, block-again}
 use borrow.Author.Needs.{needs}

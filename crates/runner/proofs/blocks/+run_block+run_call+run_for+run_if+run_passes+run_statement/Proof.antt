@@ -4,11 +4,11 @@ use Prim.Native.Nat.{_+_, _-_, _*_, _≤_, ℕ, _<_}
 use native.Mathlib.Omega.{arith}
 use lib.ListN.{length}
 use Rattle.definitions.specs.Reading.{readBlock}
-use Rattle.opening.specs.Parses.{ok}
-use Rattle.opening.specs.Statements.{last-op}
+use Rattle.laws.specs.Parses.{ok}
+use Rattle.laws.specs.StatementInversion.{last-op}
 use Rattle.reader.specs.Answers.{readStatementsAt}
 use Rattle.tracing.specs.Log.{log}
-use Rattle.evaluator.specs.Program.{programOf}
+use Rattle.laws.specs.ImageIn.{imageIn}
 use Rattle.runner.specs.Known.{paramsIn}
 use Rattle.runner.specs.Runs.{blockAt, passesAt}
 use Rattle.runner.proofs.StatementRules.{statement-place}
@@ -106,7 +106,7 @@ abbrev run-statement-below : ℕ → In 6 run-statement-kinds.ps
 run-statement-below t = and 6 run-statement-kinds.ps (falls 6 run-statement-kinds.ps _<_ μ-run-statement t) run-statement.Pre
 
 abbrev run-block-Inv-loop : run-block-lts.InvT-loop
-run-block-Inv-loop image tables ends vars₀ cells₀ trace₀ at used steps budget me level count k₀ a₀ u₀ z₀ vars cells trace k a u z = (k ≤ count) × (length vars ≡ length vars₀) × (length cells ≡ length cells₀) × (length trace ≡ length trace₀) × (ok (readStatementsAt (count - k) (level - 1) (paramsIn tables) me image a) ≡ true) × (blockAt budget (programOf image) me z (log u trace) vars cells (readStatementsAt (count - k) (level - 1) (paramsIn tables) me image a) ≡ blockAt budget (programOf image) me steps (log used trace₀) vars₀ cells₀ (readBlock level (paramsIn tables) me image at))
+run-block-Inv-loop image tables ends vars₀ cells₀ trace₀ at used steps budget me level count k₀ a₀ u₀ z₀ vars cells trace k a u z = (k ≤ count) × (length vars ≡ length vars₀) × (length cells ≡ length cells₀) × (length trace ≡ length trace₀) × (ok (readStatementsAt (count - k) (level - 1) (paramsIn tables) me image a) ≡ true) × (blockAt budget (imageIn image) me z (log u trace) vars cells (readStatementsAt (count - k) (level - 1) (paramsIn tables) me image a) ≡ blockAt budget (imageIn image) me steps (log used trace₀) vars₀ cells₀ (readBlock level (paramsIn tables) me image at))
 
 abbrev run-block-μ-loop : run-block-lts.MeasureT-loop
 run-block-μ-loop image tables ends vars₀ cells₀ trace₀ at used steps budget me level count k₀ a₀ u₀ z₀ vars cells trace k a u z = count - k
@@ -612,7 +612,7 @@ run-if-returns-5 : (t : ℕ) → run-if-lts.Need-returns-5 (branch-reads.Asked, 
 run-if-returns-5 t c = then-done _ _ _ _ _ _ (c .before .before .before .before .before .before .before .before .before .before .before .before .before .before .before .before .before .before .before .before .before .before .before .before .before .before .before .before .before .before .pre .1 .0) (c .before .before .before .before .before .before .before .before .before .before .before .before .before .before .before .before .before .before .before .before .before .before .before .before .before .before .before .before .before .before .pre .1 .1) (c .before .before .before .before .before .before .before .before .before .before .before .before .before .before .before .before .before .before .before .before .before .before .before .before .before .before .before .before .before .before .pre .1 .2) _ _ _ _ _ _ _ _ (c .before .before .before .before .before .before .before .before .before .before .before .before .before .before .before .before .before .before .before .before .branch .ensures) _ _ _ (c .before .before .before .before .before .before .before .before .before .before .before .before .before .before .before .before .d .given .1) (c .before .before .before .before .before .before .before .before .before .before .before .before .before .before .if1 .left) _ _ _ _ (c .before .before .before .before .before .before .before .before .before .before .run-block2 .ensures) _ _ _ (c .before .before .m .given .1) _ (c .block-end2 .ensures)
 
 abbrev run-passes-Inv-loop : run-passes-lts.InvT-loop
-run-passes-Inv-loop image tables ends vars₀ cells₀ trace₀ at x from to body next used steps budget me level i₀ u₀ z₀ vars cells trace i u z = (length vars ≡ length vars₀) × (length cells ≡ length cells₀) × (length trace ≡ length trace₀) × (passesAt budget (programOf image) me at x (to - i) i next z (log u trace) vars cells (readBlock level (paramsIn tables) me image body) ≡ passesAt budget (programOf image) me at x (to - from) from next steps (log used trace₀) vars₀ cells₀ (readBlock level (paramsIn tables) me image body))
+run-passes-Inv-loop image tables ends vars₀ cells₀ trace₀ at x from to body next used steps budget me level i₀ u₀ z₀ vars cells trace i u z = (length vars ≡ length vars₀) × (length cells ≡ length cells₀) × (length trace ≡ length trace₀) × (passesAt budget (imageIn image) me at x (to - i) i next z (log u trace) vars cells (readBlock level (paramsIn tables) me image body) ≡ passesAt budget (imageIn image) me at x (to - from) from next steps (log used trace₀) vars₀ cells₀ (readBlock level (paramsIn tables) me image body))
 
 abbrev run-passes-μ-loop : run-passes-lts.MeasureT-loop
 run-passes-μ-loop image tables ends vars₀ cells₀ trace₀ at x from to body next used steps budget me level i₀ u₀ z₀ vars cells trace i u z = to - i

@@ -3,10 +3,10 @@ use mathlib.Core.Bool.{true}
 use Prim.Native.Nat.{_-_, _≤_}
 use native.Mathlib.Omega.{arith}
 use lib.ListN.{length}
-use Rattle.opening.specs.Parses.{ok}
+use Rattle.laws.specs.Parses.{ok}
 use Rattle.reader.specs.Answers.{readArgumentsAt}
 use Rattle.tracing.specs.Log.{log}
-use Rattle.evaluator.specs.Program.{programOf}
+use Rattle.laws.specs.ImageIn.{imageIn}
 use Rattle.runner.specs.Runs.{argumentsAt}
 use Rattle.runner.proofs.ArgumentRules.{arguments-begin, arguments-same, arguments-fine, arguments-stop, arguments-done, arguments-ok, arguments-more}
 use borrow.Author.Needs.{needs}
@@ -18,7 +18,7 @@ use Rattle.evaluator.proofs.evaluate.Reads as evaluate-reads
 use Rattle.runner.proofs.parts.put.Reads as put-reads
 
 abbrev Inv-loop : tie.InvT-loop
-Inv-loop image tables vars cells trace₀ frame₀ count at used level k₀ a₀ u₀ trace frame k a u = (k ≤ count) × (length frame ≡ length frame₀) × (length trace ≡ length trace₀) × (ok (readArgumentsAt (count - k) level image a) ≡ true) × (argumentsAt (programOf image .arrays) vars cells (log u trace) frame k (readArgumentsAt (count - k) level image a) ≡ argumentsAt (programOf image .arrays) vars cells (log used trace₀) frame₀ 0 (readArgumentsAt count level image at))
+Inv-loop image tables vars cells trace₀ frame₀ count at used level k₀ a₀ u₀ trace frame k a u = (k ≤ count) × (length frame ≡ length frame₀) × (length trace ≡ length trace₀) × (ok (readArgumentsAt (count - k) level image a) ≡ true) × (argumentsAt (imageIn image .arrays) vars cells (log u trace) frame k (readArgumentsAt (count - k) level image a) ≡ argumentsAt (imageIn image .arrays) vars cells (log used trace₀) frame₀ 0 (readArgumentsAt count level image at))
 
 abbrev μ-loop : tie.MeasureT-loop
 μ-loop image tables vars cells trace₀ frame₀ count at used level k₀ a₀ u₀ trace frame k a u = count - k

@@ -1,5 +1,5 @@
 use Prim.Native.Nat.{_+_, _*_, ℕ, _<_}
-use Rattle.opening.specs.Expressions.{last-kind}
+use Rattle.laws.specs.ExpressionInversion.{last-kind}
 use Rattle.sorts.proofs.ExpressionRules.{cell-asks, unary-asks, binary-asks, left-asks, right-asks, condition-asks, first-asks, second-asks, operand-returns, constant-returns, raw-returns, boolean-returns, variable-returns, cell-returns, unary-returns, binary-returns, select-returns}
 use borrow.Author.Needs.{needs}
 use borrow.Fn.Kinds.{In}

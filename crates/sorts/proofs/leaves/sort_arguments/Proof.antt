@@ -5,8 +5,8 @@ use mathlib.Core.Path.{_≡_, _∙_}
 use mathlib.Core.Bool.{true}
 use lib.ListN.{length}
 use Rattle.definitions.specs.Image.{procedureAt}
-use Rattle.opening.specs.Parses.{ok}
-use Rattle.signatures.specs.Signatures.{imageIn}
+use Rattle.laws.specs.Parses.{ok}
+use Rattle.laws.specs.ImageIn.{imageIn}
 use Rattle.sorts.specs.Walk.{argumentsAt, argumentsWalked}
 use Rattle.sorts.proofs.StatementRules.{argumentsLeft, arguments-begin, arguments-first, arguments-done, argument-asks, arguments-still, arguments-more}
 use borrow.Author.Needs.{needs}

@@ -4,7 +4,7 @@ use mathlib.Core.Path.{_≡_, _∙_, refl}
 use mathlib.Core.Bool.{true}
 use lib.ListN.{length}
 use Rattle.definitions.specs.Reading.{readBlock}
-use Rattle.opening.specs.Parses.{ok}
+use Rattle.laws.specs.Parses.{ok}
 use Rattle.sorts.specs.Walk.{statementsAt}
 use Rattle.sorts.specs.Marking.{blockMarks}
 use Rattle.sorts.proofs.BlockRules.{statements-first, statement-asks, if-asks, for-asks}

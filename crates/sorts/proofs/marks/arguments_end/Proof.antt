@@ -2,7 +2,7 @@ use Prim.Native.Nat.{_+_, _-_, _≤_}
 use mathlib.Core.Path.{_≡_, _∙_}
 use mathlib.Core.Bool.{true}
 use lib.ListN.{length}
-use Rattle.opening.specs.Parses.{ok, endOf}
+use Rattle.laws.specs.Parses.{ok, endOf}
 use Rattle.sorts.specs.Walk.{argumentsAt}
 use Rattle.sorts.proofs.MarkRules.{ends-first, ends-begin, ends-done, ends-asks, ends-more}
 use borrow.Author.Needs.{needs}

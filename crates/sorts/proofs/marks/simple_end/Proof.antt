@@ -1,4 +1,4 @@
-use Rattle.opening.specs.Statements.{last-op}
+use Rattle.laws.specs.StatementInversion.{last-op}
 use Rattle.sorts.proofs.StatementRules.{assign-asks, store-asks, return-asks, call-asks}
 use Rattle.sorts.proofs.MarkRules.{assign-leaves, return-leaves, store-second, store-leaves, call-leaves}
 use borrow.Author.Needs.{needs}

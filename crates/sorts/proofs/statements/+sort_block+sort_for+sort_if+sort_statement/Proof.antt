@@ -6,9 +6,9 @@ use mathlib.Core.List.{[]}
 use lib.ListN.{length}
 use Rattle.definitions.specs.Faults.{noFault}
 use Rattle.definitions.specs.Reading.{readBlock}
-use Rattle.opening.specs.Parses.{ok}
-use Rattle.opening.specs.Statements.{last-op}
-use Rattle.signatures.specs.Signatures.{imageIn}
+use Rattle.laws.specs.Parses.{ok}
+use Rattle.laws.specs.StatementInversion.{last-op}
+use Rattle.laws.specs.ImageIn.{imageIn}
 use Rattle.sorts.specs.Walk.{statementsAt, blockWalked}
 use Rattle.sorts.proofs.BlockRules.{blockLeft, statements-first, statement-asks, block-begin, block-done, block-still, block-again, if-asks, then-asks, else-asks, if-done, for-asks, to-asks, body-asks, for-returns, mark-restored}
 use borrow.Author.Needs.{needs}
