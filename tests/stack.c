@@ -253,7 +253,7 @@ static const char *const function_names[] = {"tinesage_check", "tinesage_compile
 /* what docs/STACK.md states, in bytes */
 static const size_t bounds[FUNCTIONS] = {[CHECK] = 128 << 10, [COMPILE] = 192 << 10, [LOAD] = 128 << 10,
                                          [CLEAR] = 128 << 10, [POKE] = 128 << 10,    [PEEK] = 128 << 10,
-                                         [CALLED] = 1536 << 10};
+                                         [CALLED] = 640 << 10};
 
 struct job {
     enum function function;

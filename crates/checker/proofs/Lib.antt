@@ -1,2 +1,1 @@
-pub mod SortingRules
 pub mod VerdictRules

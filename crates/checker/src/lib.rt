@@ -2,74 +2,49 @@
 use definitions::Checked;
 use definitions::Fault;
 use reader::Read;
-
-pub mod sorting;
-
+use tables::SIZE;
 ghost use mathlib.Core.Path.{_≡_};
-ghost use mathlib.Core.Bool.{Bool, true};
-ghost use Prim.Native.Nat.{ℕ, _≤_};
-ghost use lib.ListN.{length};
+ghost use mathlib.Core.Bool.{true};
+ghost use lib.ListN.{length, replicate};
 ghost use Rattle.definitions.specs.Reading.{readImage};
 ghost use Rattle.definitions.specs.Checking.{faultOf, checked};
-ghost use Rattle.laws.specs.Parses.{ok};
-ghost use Rattle.reader.specs.Tables.{Filled, TablesOf};
 ghost use Rattle.laws.specs.ImageIn.{imageIn};
+ghost use Rattle.tables.specs.Table.{Known};
+ghost use Rattle.reader.specs.Left.{TablesLeft};
 
 // The lowest fault of an image that was read: of 6 to 8, and where it has none of 9 to 13.
-fn lowest_fault(image: &[u32], params: &[u32], places: &[u32]) -> Fault
-    requires { ⌜ (32 ≤ length (now places)) × (32 ≤ length (now params)) × (ok (readImage true (now image)) ≡ true) × (Filled (imageIn (now image) .form) (now image) (now params) (now places) (imageIn (now image) .procedures)) ⌝ }
+fn lowest_fault(image: &[u32], table: &[u32; SIZE]) -> Fault
+    requires { ⌜ Known (now image) (now table) ⌝ }
     ensures { λ r. ⌜ r ≡ faultOf (imageIn (now (image .entry))) ⌝ }
 {
-    let found = sorting::sort_image(image, params, places);
-    let number = found.number;
-    if number != 0 {
+    let found = sorts::procedures::check_image(image, table);
+    if found.number != 0 {
         return found;
     }
-    let none = Fault {
-        number: 0,
-        place: 0,
-    };
-    labels::procedures::label_procedures(image, params, places, none)
+    labels::procedures::label_image(image, table)
 }
 
 // The verdict on an image that was read.
-fn verdict(image: &[u32], params: &[u32], places: &[u32]) -> Checked
-    requires { ⌜ (32 ≤ length (now places)) × (32 ≤ length (now params)) × (ok (readImage true (now image)) ≡ true) × (Filled (imageIn (now image) .form) (now image) (now params) (now places) (imageIn (now image) .procedures)) ⌝ }
+fn verdict(image: &[u32], table: &[u32; SIZE]) -> Checked
+    requires { ⌜ Known (now image) (now table) ⌝ }
     ensures { λ r. ⌜ r ≡ checked true (now (image .entry)) ⌝ }
 {
-    let found = lowest_fault(image, params, places);
-    let number = found.number;
-    let place = found.place;
-    if number != 0 {
-        return Checked::Refused(number, place);
+    let found = lowest_fault(image, table);
+    if found.number != 0 {
+        return Checked::Refused(found.number, found.place);
     }
     Checked::Accepted
 }
 
-// Checks an image and leaves the reader's tables for the passes after. `whole` tells whether the image came as whole words.
-pub fn check_with(
-    image: &[u32],
-    whole: bool,
-    params: &mut [u32; 32],
-    places: &mut [u32; 32],
-    ends: &mut [u32],
-) -> Checked
+// Checks an image and leaves the reader's tables for the passes after; both come as zeros. `whole` tells whether the image came as whole words.
+pub fn check_with(image: &[u32], whole: bool, table: &mut [u32; SIZE], ends: &mut [u32]) -> Checked
+    requires { ⌜ (now table ≡ replicate 129 0) × (now ends ≡ replicate (length (now ends)) 0) ⌝ }
     ensures { λ r. ⌜ (r ≡ checked whole (now (image .entry)))
-        × TablesOf (readImage whole (now (image .entry))) (now (image .entry)) (now (params .exit)) (now (places .exit)) (now (ends .exit)) ⌝ }
+        × TablesLeft (readImage whole (now (image .entry))) (now (image .entry)) (now (table .exit)) (now (ends .exit)) ⌝ }
 {
-    let r = reader::image::read_image(image, whole, params, places, ends);
+    let r = reader::image::read_image(image, whole, table, ends);
     match r {
         Read::Refused(number, place) => Checked::Refused(number, place),
-        Read::At(word, next) => verdict(image, params, places),
+        Read::At(word, next) => verdict(image, table),
     }
-}
-
-// Checks an image of words.
-pub fn check(image: &[u32]) -> Checked
-    ensures { λ r. ⌜ r ≡ checked true (now (image .entry)) ⌝ }
-{
-    let mut params = [0u32; 32];
-    let mut places = [0u32; 32];
-    let mut ends = [0u32; 0];
-    check_with(image, true, &mut params, &mut places, &mut ends)
 }

@@ -1,27 +1,21 @@
--- What emitting procedures and images leaves: the place after them, whether their locals fit form 1, and their words on the tape.
+-- What emitting procedures and images leaves: the place after them, whether their locals fit form 1, and their words in the output.
 -- Assumes nothing.
 use Prim.Native.Nat.{ℕ, _-_}
-use mathlib.Core.Path.{_≡_}
 use mathlib.Core.Bool.{Bool, _&&_}
 use mathlib.Core.List.{List}
 use lib.Dec.{leb}
 use lib.ListN.{length}
-use Rattle.definitions.specs.Image.{typeSort, Procedure, Image, guarded, procedureAt}
+use Rattle.definitions.specs.Image.{Procedure, Image}
 use Rattle.definitions.specs.Encoding.{procedureWords, proceduresWords, imageWords}
 use Rattle.definitions.specs.Compiling.{compiledProcedure, compiledProcedures, compiledImage, fitLocals}
-use Rattle.tape.specs.Tape.{Tape, writes}
-use Rattle.emission.specs.Callees.{calleesOf}
+use Rattle.writer.specs.Writing.{Output, writes}
 use Rattle.compiler.specs.declared.Sized.{Sized}
 
--- the table of callees tells of every procedure its mode and the sort of its result
-pub record Agrees (cs : List ℕ) (ps : List Procedure) : Type 0 where
-  pub modes : (f : ℕ) → guarded (procedureAt (calleesOf cs) f) ≡ guarded (procedureAt ps f)
-  pub sorts : (f : ℕ) → typeSort (procedureAt (calleesOf cs) f .result) ≡ typeSort (procedureAt ps f .result)
-
+-- the answer, and the output afterwards
 abbrev pub Sizing : Type 0
 Sizing = Sized × List ℕ
 
-abbrev pub sizing : Bool → Tape → Sizing
+abbrev pub sizing : Bool → Output → Sizing
 sizing f z = (record { o = z .0; fits = f }, z .1)
 
 unfoldable pub oneOn : List Procedure → List ℕ → Procedure → ℕ → List ℕ → Sizing

@@ -1,3 +1,2 @@
 pub mod Sight
-pub mod Skipping
 pub mod Passing

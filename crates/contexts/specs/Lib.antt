@@ -1,4 +1,1 @@
-pub mod Fine
-pub mod Parts
-pub mod StatementParts
 pub mod Context

@@ -1,12 +1,29 @@
 // The labels of expressions and the rc after statements, found by one walk over the words of a part that was read.
+use image_words::array_secret;
+use image_words::kind;
+use image_words::kinds;
+use image_words::lists::element;
+use image_words::lists::wide;
+use image_words::op;
+use image_words::ops;
+use image_words::payload;
+use image_words::skipping::skip;
+use image_words::type_secret;
+use tables::SIZE;
 ghost use mathlib.Core.Path.{_≡_};
-ghost use mathlib.Core.Bool.{true};
 ghost use lib.ListN.{length, getD};
 ghost use Rattle.definitions.specs.Image.{typeSecret, arraySecret, opOf};
 ghost use Rattle.definitions.specs.Reading.{readExpression, readStatement, readBlock};
-ghost use Rattle.laws.specs.Parses.{ok, endOf};
-ghost use Rattle.contexts.specs.Fine.{FineExpression, FineTwo, FineStatement, FineBlock, argumentsLeft, statementsLeft};
+ghost use Rattle.laws.specs.Parses.{endOf};
+ghost use Rattle.image_words.specs.Read.{ExpressionRead, PairRead, StatementRead, BlockRead};
+ghost use Rattle.tables.specs.Table.{arraysIn, paramsIn};
 ghost use Rattle.contexts.specs.Context.{seen, seenTwo, passed, passedBlock};
+
+// Whether pc is secret, and rc.
+pub struct Context {
+    pub pc: bool,
+    pub rc: bool,
+}
 
 // Whether an expression is secret, and the place after it.
 pub struct Seen {
@@ -24,79 +41,71 @@ pub struct Passed {
 pub fn secret_variable(types: &[u32], x: u32) -> bool
     ensures { λ r. ⌜ r ≡ typeSecret (getD (now (types .entry)) x 0) ⌝ }
 {
-    let i = x as usize;
-    if i < types.len() {
-        return types[i] % 2 == 1;
-    }
-    false
+    type_secret(element(types, wide(x)))
 }
 
-// Whether an array is secret, by the array words.
-pub fn secret_array(arrays: &[u32], a: u32) -> bool
-    ensures { λ r. ⌜ r ≡ arraySecret (getD (now (arrays .entry)) a 0) ⌝ }
+// Whether an array is secret.
+pub fn secret_array(table: &[u32; SIZE], a: u32) -> bool
+    ensures { λ r. ⌜ r ≡ arraySecret (getD (arraysIn (now (table .entry))) a 0) ⌝ }
 {
-    let i = a as usize;
-    if i < arrays.len() {
-        return arrays[i] % 268435456 / 65536 == 1;
-    }
-    false
+    array_secret(tables::array(table, a))
 }
 
 // Whether the expression at a place is secret.
 pub fn secret_expression(
     image: &[u32],
+    table: &[u32; SIZE],
     types: &[u32],
-    arrays: &[u32],
     at: usize,
     level: u32,
 ) -> Seen
-    requires { ⌜ FineExpression level (now image) at ⌝ }
-    ensures { λ r. ⌜ r ≡ seen (now (types .entry)) (now (arrays .entry)) (readExpression level (now (image .entry)) at) ⌝ }
+    requires { ⌜ ExpressionRead level (now image) at ⌝ }
+    ensures { λ r. ⌜ r ≡ seen (now (types .entry)) (arraysIn (now (table .entry))) (readExpression level (now (image .entry)) at) ⌝ }
 {
     let w = image[at];
-    let k = w / 268435456;
-    if k == 7 {
+    let k = kind(w);
+    if k == kinds::CONSTANT {
         return Seen {
             secret: false,
             next: at + 1,
         };
     }
-    if k == 8 {
+    if k == kinds::RAW_CONSTANT {
         return Seen {
             secret: false,
             next: at + 1 + 1,
         };
     }
-    if k == 9 {
+    if k == kinds::BOOLEAN {
         return Seen {
             secret: false,
             next: at + 1,
         };
     }
-    if k == 10 {
-        let s = secret_variable(types, w % 268435456);
+    if k == kinds::VARIABLE {
+        let s = secret_variable(types, payload(w));
         return Seen {
             secret: s,
             next: at + 1,
         };
     }
-    if k == 11 {
-        let s = secret_array(arrays, w % 268435456);
-        let i = secret_expression(image, types, arrays, at + 1, level - 1);
+    if k == kinds::CELL {
+        let s = secret_array(table, payload(w));
+        let i = secret_expression(image, table, types, at + 1, level - 1);
         return Seen {
             secret: s | i.secret,
             next: i.next,
         };
     }
-    if k == 12 {
-        return secret_expression(image, types, arrays, at + 1, level - 1);
+    if k == kinds::UNARY {
+        return secret_expression(image, table, types, at + 1, level - 1);
     }
-    if k == 13 {
-        return secret_two(image, types, arrays, at + 1, level - 1);
+    if k == kinds::BINARY {
+        return secret_two(image, table, types, at + 1, level - 1);
     }
-    let c = secret_expression(image, types, arrays, at + 1, level - 1);
+    let c = secret_expression(image, table, types, at + 1, level - 1);
     let n = c.next;
-    let v = secret_two(image, types, arrays, n, level - 1);
+    let v = secret_two(image, table, types, n, level - 1);
     Seen {
         secret: c.secret | v.secret,
         next: v.next,
@@ -104,114 +113,95 @@ pub fn secret_expression(
 }
 
 // Whether one of two expressions, one behind the other, is secret.
-pub fn secret_two(image: &[u32], types: &[u32], arrays: &[u32], at: usize, level: u32) -> Seen
-    requires { ⌜ FineTwo level (now image) at ⌝ }
-    ensures { λ r. ⌜ r ≡ seenTwo (now (types .entry)) (now (arrays .entry)) (readExpression level (now (image .entry)) at) (readExpression level (now (image .entry)) (endOf (readExpression level (now (image .entry)) at))) ⌝ }
+fn secret_two(image: &[u32], table: &[u32; SIZE], types: &[u32], at: usize, level: u32) -> Seen
+    requires { ⌜ PairRead level (now image) at ⌝ }
+    ensures { λ r. ⌜ r ≡ seenTwo (now (types .entry)) (arraysIn (now (table .entry))) (readExpression level (now (image .entry)) at)
+        (readExpression level (now (image .entry)) (endOf (readExpression level (now (image .entry)) at))) ⌝ }
 {
-    let e = secret_expression(image, types, arrays, at, level);
+    let e = secret_expression(image, table, types, at, level);
     let n = e.next;
-    let f = secret_expression(image, types, arrays, n, level);
+    let f = secret_expression(image, table, types, n, level);
     Seen {
         secret: e.secret | f.secret,
         next: f.next,
     }
 }
 
-// The place after n expressions in a row. Their labels are passed over.
-pub fn skip_arguments(
-    image: &[u32],
-    types: &[u32],
-    arrays: &[u32],
-    n: u32,
-    at: usize,
-    level: u32,
-) -> usize
-    requires { ⌜ ok (argumentsLeft n level (now image) at) ≡ true ⌝ }
-    ensures { λ r. ⌜ r ≡ endOf (argumentsLeft n level (now (image .entry)) at) ⌝ }
-{
-    let mut j = 0;
-    let mut a = at;
-    while j < n {
-        let e = secret_expression(image, types, arrays, a, level);
-        a = e.next;
-        j += 1;
-    }
-    a
-}
-
-// The rc after the statement at a place, which begins with the given pc and rc; `me` is the number of the procedure.
+// The rc after the statement at a place, in the body of procedure `me`.
 pub fn rc_statement(
     image: &[u32],
+    table: &[u32; SIZE],
     types: &[u32],
-    arrays: &[u32],
-    params: &[u32],
-    at: usize,
-    pc: bool,
-    rc: bool,
     me: u32,
+    context: Context,
+    at: usize,
     level: u32,
 ) -> Passed
-    requires { ⌜ FineStatement level (now params) me (now image) at ⌝ }
-    ensures { λ r. ⌜ r ≡ passed (now (types .entry)) (now (arrays .entry)) pc rc (readStatement level (now (params .entry)) me (now (image .entry)) at) ⌝ }
+    requires { ⌜ StatementRead level (paramsIn (now table)) me (now image) at ⌝ }
+    ensures { λ r. ⌜ r ≡ passed (now (types .entry)) (arraysIn (now (table .entry))) (context .pc) (context .rc)
+        (readStatement level (paramsIn (now (table .entry))) me (now (image .entry)) at) ⌝ }
 {
     let w = image[at];
-    let op = w % 268435456 / 65536;
-    if op == 0 {
-        let e = secret_expression(image, types, arrays, at + 1, level - 1);
+    let o = op(w);
+    if o == ops::ASSIGN {
+        let next = skip(image, at + 1, 1);
         return Passed {
-            rc: rc,
-            next: e.next,
+            rc: context.rc,
+            next,
         };
     }
-    if op == 1 {
-        let e = secret_two(image, types, arrays, at + 1, level - 1);
+    if o == ops::STORE {
+        let next = skip(image, at + 1, 2);
         return Passed {
-            rc: rc,
-            next: e.next,
+            rc: context.rc,
+            next,
         };
     }
-    if op == 2 {
-        return rc_if(image, types, arrays, params, at, pc, rc, me, level);
+    if o == ops::IF {
+        return rc_if(image, table, types, me, context, at, level);
     }
-    if op == 3 {
-        let t = secret_two(image, types, arrays, at + 1, level - 1);
-        let b = t.next;
-        return rc_block(image, types, arrays, params, b, pc, rc, me, level - 1);
+    if o == ops::FOR {
+        let body = skip(image, at + 1, 2);
+        return rc_block(image, table, types, me, context, body, level - 1);
     }
-    if op == 4 {
-        let e = secret_expression(image, types, arrays, at + 1, level - 1);
+    if o == ops::RETURN {
+        let next = skip(image, at + 1, 1);
         return Passed {
-            rc: pc | rc,
-            next: e.next,
+            rc: context.pc | context.rc,
+            next,
         };
     }
-    let f = (w % 65536 / 256) as usize;
-    let n = params[f];
-    let next = skip_arguments(image, types, arrays, n, at + 1, level - 1);
-    Passed { rc: rc, next: next }
+    let n = tables::parameters(table, image_words::called(w));
+    let next = skip(image, at + 1, wide(n));
+    Passed {
+        rc: context.rc,
+        next,
+    }
 }
 
 // An if: both arms begin with the rc before it, and pc is secret in them if the condition is.
-pub fn rc_if(
+fn rc_if(
     image: &[u32],
+    table: &[u32; SIZE],
     types: &[u32],
-    arrays: &[u32],
-    params: &[u32],
-    at: usize,
-    pc: bool,
-    rc: bool,
     me: u32,
+    context: Context,
+    at: usize,
     level: u32,
 ) -> Passed
-    requires { ⌜ FineStatement level (now params) me (now image) at × (opOf (getD (now image) at 0) ≡ 2) ⌝ }
-    ensures { λ r. ⌜ r ≡ passed (now (types .entry)) (now (arrays .entry)) pc rc (readStatement level (now (params .entry)) me (now (image .entry)) at) ⌝ }
+    requires { ⌜ StatementRead level (paramsIn (now table)) me (now image) at × (opOf (getD (now image) at 0) ≡ 2) ⌝ }
+    ensures { λ r. ⌜ r ≡ passed (now (types .entry)) (arraysIn (now (table .entry))) (context .pc) (context .rc)
+        (readStatement level (paramsIn (now (table .entry))) me (now (image .entry)) at) ⌝ }
 {
-    let c = secret_expression(image, types, arrays, at + 1, level - 1);
+    let c = secret_expression(image, table, types, at + 1, level - 1);
     let n = c.next;
-    let p = pc | c.secret;
-    let a = rc_block(image, types, arrays, params, n, p, rc, me, level - 1);
+    let arm = Context {
+        pc: context.pc | c.secret,
+        rc: context.rc,
+    };
+    let a = rc_block(image, table, types, me, arm, n, level - 1);
     let m = a.next;
-    let b = rc_block(image, types, arrays, params, m, p, rc, me, level - 1);
+    let b = rc_block(image, table, types, me, arm, m, level - 1);
     Passed {
         rc: a.rc | b.rc,
         next: b.next,
@@ -221,24 +211,27 @@ pub fn rc_if(
 // The rc after the block at a place.
 pub fn rc_block(
     image: &[u32],
+    table: &[u32; SIZE],
     types: &[u32],
-    arrays: &[u32],
-    params: &[u32],
-    at: usize,
-    pc: bool,
-    rc: bool,
     me: u32,
+    context: Context,
+    at: usize,
     level: u32,
 ) -> Passed
-    requires { ⌜ FineBlock level (now params) me (now image) at ⌝ }
-    ensures { λ r. ⌜ r ≡ passedBlock (now (types .entry)) (now (arrays .entry)) pc rc (readBlock level (now (params .entry)) me (now (image .entry)) at) ⌝ }
+    requires { ⌜ BlockRead level (paramsIn (now table)) me (now image) at ⌝ }
+    ensures { λ r. ⌜ r ≡ passedBlock (now (types .entry)) (arraysIn (now (table .entry))) (context .pc) (context .rc)
+        (readBlock level (paramsIn (now (table .entry))) me (now (image .entry)) at) ⌝ }
 {
-    let count = image[at] % 268435456;
+    let count = payload(image[at]);
     let mut j = 0;
     let mut a = at + 1;
-    let mut r = rc;
+    let mut r = context.rc;
     while j < count {
-        let s = rc_statement(image, types, arrays, params, a, pc, r, me, level - 1);
+        let now = Context {
+            pc: context.pc,
+            rc: r,
+        };
+        let s = rc_statement(image, table, types, me, now, a, level - 1);
         a = s.next;
         r = s.rc;
         j += 1;

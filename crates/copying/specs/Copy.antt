@@ -1,18 +1,18 @@
--- What copying an expression that was read leaves: the place after it, and the words of its renumbered tree on the tape. Assumes nothing.
+-- What copying an expression that was read leaves: the place after it, and the words of its renumbered tree in the output. Assumes nothing.
 use Prim.Native.Nat.{ℕ}
 use mathlib.Core.List.{List}
 use Rattle.definitions.specs.Image.{Expression}
 use Rattle.definitions.specs.Reading.{Parse, got, refused}
 use Rattle.definitions.specs.Encoding.{expressionWords, argumentWords}
 use Rattle.definitions.specs.Compiling.{moved, movedAll}
-use Rattle.tape.specs.Tape.{Tape, writes}
+use Rattle.writer.specs.Writing.{Output, writes}
 use Rattle.copying.specs.declared.Spot.{Spot}
 
 -- the answer, and the output afterwards
 abbrev pub Copied : Type 0
 Copied = Spot × List ℕ
 
-abbrev pub spot : ℕ → Tape → Copied
+abbrev pub spot : ℕ → Output → Copied
 spot n z = (record { at = n; o = z .0 }, z .1)
 
 unfoldable pub copied : ℕ → ℕ → List ℕ → Parse Expression → Copied

@@ -7,8 +7,8 @@ use Rattle.definitions.specs.Reading.{Parse, got, refused}
 use Rattle.definitions.specs.Encoding.{expressionWords, argumentWords}
 use Rattle.definitions.specs.Compiling.{moved, movedAll}
 use Rattle.laws.specs.Parses.{endOf}
-use Rattle.tape.specs.Tape.{Tape, write, writes}
-use Rattle.tape.specs.Laws.{writes-on, writes-app}
+use Rattle.writer.specs.Writing.{Output, write, writes}
+use Rattle.writer.specs.Laws.{writes-on, writes-app}
 use Rattle.copying.specs.Copy.{Copied, spot, copied, copiedTwo, copiedArguments}
 use Rattle.copying.specs.declared.Spot.{Spot}
 
@@ -32,11 +32,6 @@ unfolding copied copiedTwo
 two-got first o out x y e f n m q r =
     rw (q, r, writes-app (expressionWords (moved first e)) (expressionWords (moved first f)) o out)
 
-pub two-end : (first o : ℕ) (out : List ℕ) (x y : Parse Expression) (r : Spot) (t : List ℕ) → _≡_ {A = Copied} (r, t) (copiedTwo first o out x y)
-    → r .at ≡ endOf y
-unfolding copiedTwo
-two-end first o out x y r t e = ap (λ (z : Copied). z .0 .at) e ∙ copied-at first _ _ y
-
 pub arguments-got : (first o : ℕ) (out : List ℕ) (x : Parse (List Expression)) (es : List Expression) (n : ℕ) → x ≡ got es n
     → copiedArguments first o out x ≡ spot n (writes o out (argumentWords (movedAll first es)))
 unfolding copiedArguments
@@ -44,4 +39,4 @@ arguments-got first o out x es n q = rw q
 
 -- a word before a run
 pub word-then : (n o : ℕ) (out : List ℕ) (w : ℕ) (ws : List ℕ) → spot n (writes (write o out w .0) (write o out w .1) ws) ≡ spot n (writes o out (w ∷ ws))
-word-then n o out w ws = ap (λ (z : Tape). spot n z) (sym (writes-on o out w ws))
+word-then n o out w ws = ap (λ (z : Output). spot n z) (sym (writes-on o out w ws))

@@ -1,4 +1,11 @@
 // Expressions of the source image copied into the compiled one, their variables renumbered.
+use image_words::kind;
+use image_words::kinds;
+use image_words::made::RAW_WORD;
+use image_words::made::SELECT_WORD;
+use image_words::made::word_with;
+use image_words::payload;
+use writer::put;
 ghost use mathlib.Core.Path.{_≡_};
 ghost use mathlib.Core.Bool.{true};
 ghost use Prim.Native.Nat.{_+_, _≤_, _<_};
@@ -7,8 +14,8 @@ ghost use Rattle.definitions.specs.Image.{kindOf};
 ghost use Rattle.definitions.specs.Reading.{readExpression};
 ghost use Rattle.definitions.specs.Compiling.{renamed};
 ghost use Rattle.laws.specs.Parses.{ok, endOf};
-ghost use Rattle.tape.specs.Tape.{write};
-ghost use Rattle.contexts.specs.Fine.{FineExpression, FineTwo, argumentsLeft};
+ghost use Rattle.image_words.specs.Read.{ExpressionRead, PairRead, argumentsAt};
+ghost use Rattle.writer.specs.Writing.{write};
 ghost use Rattle.copying.specs.Copy.{spot, copied, copiedTwo, copiedArguments};
 
 // The place after what was read, and the place after what was written.
@@ -29,11 +36,12 @@ pub fn renumber(first: u32, x: u32) -> u32
 }
 
 // Copies one word as it is.
-pub fn copy_word(image: &[u32], out: &mut [u32], at: usize, o: usize) -> Spot
+fn copy_word(image: &[u32], out: &mut [u32], at: usize, o: usize) -> Spot
     requires { ⌜ at < length (now image) ⌝ }
-    ensures { λ r. ⌜ ((r, now (out .exit)) ≡ spot (at + 1) (write o (now (out .entry)) (getD (now (image .entry)) at 0))) × (r .at ≡ at + 1) × (r .at ≤ length (now (image .entry))) ⌝ }
+    ensures { λ r. ⌜ ((r, now (out .exit)) ≡ spot (at + 1) (write o (now (out .entry)) (getD (now (image .entry)) at 0)))
+        × (r .at ≡ at + 1) × (r .at ≤ length (now (image .entry))) ⌝ }
 {
-    let p = tape::put(out, o, image[at]);
+    let p = put(out, o, image[at]);
     Spot { at: at + 1, o: p }
 }
 
@@ -46,56 +54,49 @@ pub fn copy_expression(
     first: u32,
     level: u32,
 ) -> Spot
-    requires { ⌜ FineExpression level (now image) at ⌝ }
-    ensures { λ r. ⌜ ((r, now (out .exit)) ≡ copied first o (now (out .entry)) (readExpression level (now (image .entry)) at)) × (at < r .at) × (r .at ≤ length (now (image .entry))) ⌝ }
+    requires { ⌜ ExpressionRead level (now image) at ⌝ }
+    ensures { λ r. ⌜ ((r, now (out .exit)) ≡ copied first o (now (out .entry)) (readExpression level (now (image .entry)) at))
+        × (at < r .at) × (r .at ≤ length (now (image .entry))) ⌝ }
 {
     let w = image[at];
-    let k = w / 268435456;
-    if k == 7 {
-        let p = tape::put(out, o, w);
-        return Spot { at: at + 1, o: p };
+    let k = kind(w);
+    if k == kinds::CONSTANT {
+        return copy_word(image, out, at, o);
     }
-    if k == 8 {
-        let p = tape::put(out, o, 2147483648);
+    if k == kinds::RAW_CONSTANT {
+        let p = put(out, o, RAW_WORD);
         return copy_word(image, out, at + 1, p);
     }
-    if k == 9 {
-        let p = tape::put(out, o, w);
+    if k == kinds::BOOLEAN {
+        return copy_word(image, out, at, o);
+    }
+    if k == kinds::VARIABLE {
+        let y = renumber(first, payload(w));
+        let p = put(out, o, word_with(kinds::VARIABLE, y));
         return Spot { at: at + 1, o: p };
     }
-    if k == 10 {
-        let y = renumber(first, w % 268435456);
-        let p = tape::put(out, o, 2684354560 + y);
-        return Spot { at: at + 1, o: p };
-    }
-    if k == 11 {
-        let p = tape::put(out, o, w);
+    if k == kinds::CELL {
+        let p = put(out, o, w);
         return copy_expression(image, out, at + 1, p, first, level - 1);
     }
-    if k == 12 {
-        let p = tape::put(out, o, w);
+    if k == kinds::UNARY {
+        let p = put(out, o, w);
         return copy_expression(image, out, at + 1, p, first, level - 1);
     }
-    if k == 13 {
-        let p = tape::put(out, o, w);
+    if k == kinds::BINARY {
+        let p = put(out, o, w);
         return copy_two(image, out, at + 1, p, first, level - 1);
     }
     copy_select(image, out, at, o, first, level)
 }
 
 // A select: its condition, then its two values.
-pub fn copy_select(
-    image: &[u32],
-    out: &mut [u32],
-    at: usize,
-    o: usize,
-    first: u32,
-    level: u32,
-) -> Spot
-    requires { ⌜ FineExpression level (now image) at × (kindOf (getD (now image) at 0) ≡ 14) ⌝ }
-    ensures { λ r. ⌜ ((r, now (out .exit)) ≡ copied first o (now (out .entry)) (readExpression level (now (image .entry)) at)) × (at < r .at) × (r .at ≤ length (now (image .entry))) ⌝ }
+fn copy_select(image: &[u32], out: &mut [u32], at: usize, o: usize, first: u32, level: u32) -> Spot
+    requires { ⌜ ExpressionRead level (now image) at × (kindOf (getD (now image) at 0) ≡ 14) ⌝ }
+    ensures { λ r. ⌜ ((r, now (out .exit)) ≡ copied first o (now (out .entry)) (readExpression level (now (image .entry)) at))
+        × (at < r .at) × (r .at ≤ length (now (image .entry))) ⌝ }
 {
-    let p = tape::put(out, o, 3758096384);
+    let p = put(out, o, SELECT_WORD);
     let c = copy_expression(image, out, at + 1, p, first, level - 1);
     let n = c.at;
     let q = c.o;
@@ -104,8 +105,10 @@ pub fn copy_select(
 
 // Copies two expressions, one behind the other.
 pub fn copy_two(image: &[u32], out: &mut [u32], at: usize, o: usize, first: u32, level: u32) -> Spot
-    requires { ⌜ FineTwo level (now image) at ⌝ }
-    ensures { λ r. ⌜ ((r, now (out .exit)) ≡ copiedTwo first o (now (out .entry)) (readExpression level (now (image .entry)) at) (readExpression level (now (image .entry)) (endOf (readExpression level (now (image .entry)) at)))) × (at < r .at) × (r .at ≤ length (now (image .entry))) ⌝ }
+    requires { ⌜ PairRead level (now image) at ⌝ }
+    ensures { λ r. ⌜ ((r, now (out .exit)) ≡ copiedTwo first o (now (out .entry)) (readExpression level (now (image .entry)) at)
+        (readExpression level (now (image .entry)) (endOf (readExpression level (now (image .entry)) at))))
+        × (at < r .at) × (r .at ≤ length (now (image .entry))) ⌝ }
 {
     let e = copy_expression(image, out, at, o, first, level);
     let n = e.at;
@@ -113,23 +116,24 @@ pub fn copy_two(image: &[u32], out: &mut [u32], at: usize, o: usize, first: u32,
     copy_expression(image, out, n, q, first, level)
 }
 
-// Copies n expressions in a row: the values of a call.
+// Copies a number of expressions in a row: the values of a call.
 pub fn copy_arguments(
     image: &[u32],
     out: &mut [u32],
-    n: u32,
     at: usize,
     o: usize,
+    count: u32,
     first: u32,
     level: u32,
 ) -> Spot
-    requires { ⌜ (at ≤ length (now image)) × (ok (argumentsLeft n level (now image) at) ≡ true) ⌝ }
-    ensures { λ r. ⌜ ((r, now (out .exit)) ≡ copiedArguments first o (now (out .entry)) (argumentsLeft n level (now (image .entry)) at)) × (at ≤ r .at) × (r .at ≤ length (now (image .entry))) ⌝ }
+    requires { ⌜ (at ≤ length (now image)) × (ok (argumentsAt count level (now image) at) ≡ true) ⌝ }
+    ensures { λ r. ⌜ ((r, now (out .exit)) ≡ copiedArguments first o (now (out .entry)) (argumentsAt count level (now (image .entry)) at))
+        × (at ≤ r .at) × (r .at ≤ length (now (image .entry))) ⌝ }
 {
     let mut j = 0;
     let mut a = at;
     let mut p = o;
-    while j < n {
+    while j < count {
         let e = copy_expression(image, out, a, p, first, level);
         a = e.at;
         p = e.o;

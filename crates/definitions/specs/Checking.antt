@@ -1,5 +1,4 @@
--- Document 01: which images are admitted, and the checker's answer. Reading comes first, then 6 to 8, then 9 to 13,
--- each group with its least fault.
+-- Document 01: which images are admitted, and the checker's answer: reading, then 6 to 8, then 9 to 13, by least fault.
 use mathlib.Core.Bool.{Bool}
 use mathlib.Core.List.{List}
 use Prim.Native.Nat.{ℕ}

@@ -40,8 +40,7 @@ moved first (select p c e f) = select p (moved first c) (moved first e) (moved f
 unfoldable pub movedAll : ℕ → List Expression → List Expression
 movedAll first es = map (λ e. moved first e) es
 
--- "Let act be the guard, T or E of the innermost secret arm, and LIVE if rc is secret; "13 arm LIVE" if both." In a
--- public context nothing asks for it.
+-- "Let act be the guard, T or E of the innermost secret arm, and LIVE if rc is secret; "13 arm LIVE" if both."
 unfoldable pub act : Bool → ℕ → Bool → ℕ → Expression
 act true arm true live = binary 0 13 (variable 0 arm) (variable 0 live)
 act true arm false live = variable 0 arm
@@ -97,8 +96,7 @@ abbrev pub ArmCode : Type 0
 ArmCode = Bool → ℕ → ℕ → Block
 
 -- "Secret if: T := condition, E := not T; under an act, T := act and condition, E := act and not T. The arms follow in
--- line." "An if with a public condition and a for keep their form." `size` is the number of the first arm's
--- temporaries.
+-- line." "An if with a public condition and a for keep their form." `size`: how many temporaries the first arm has
 unfoldable pub compiledIf : Bool → Bool → ℕ → Bool → ℕ → ℕ → Expression → ℕ → ArmCode → ArmCode → Block
 compiledIf true pc arm rc live k c size a b = sequence 0 (assign k (under (pc || rc) (act pc arm rc live) c))
     (sequence 0 (assign (k + 1) (under (pc || rc) (act pc arm rc live) (unary 0 0 (variable 0 k))))
@@ -118,8 +116,7 @@ compiledCall true g a k f x es =
     sequence 0 (call f k (es ++ (a ∷ []))) (one (assign x (select 0 a (variable 0 k) (variable 0 x))))
 compiledCall false g a k f x es = one (call f x (es ++ pick g (boolean 0 1 ∷ []) []))
 
--- over the image's procedures and array words; the type words of the procedure's variables, the first of them that
--- moves, and RV, which LIVE follows
+-- over procedures, array words, type words of the procedure's variables, the first that moves, and RV, which LIVE follows
 module _ (ps : List Procedure) (arrays types : List ℕ) (first rv : ℕ) where
   -- A statement, by pc and its arm's variable, rc, and the next temporary, and a block. "Assign: v := select(act,
   -- value, v). Store: select(act, value, old cell)."
@@ -153,8 +150,7 @@ defers arrays p = rcAfterBlock (p .types) arrays (guarded p) false (p .body)
 abbrev pub guards : Procedure → ℕ
 guards p = pick (guarded p) 1 0
 
--- "New locals follow: RV (result's type) and LIVE if any return is deferred": RV's number, after those that the source
--- has
+-- "New locals follow: RV (result's type) and LIVE if any return is deferred": the number of RV
 abbrev pub returnVariable : Procedure → ℕ
 returnVariable p = length (p .types) + guards p
 
@@ -183,29 +179,26 @@ module _ (ps : List Procedure) (arrays : List ℕ) where
       (p .body) (guarded p) (p .parameters) false (firstTemporary arrays p))
 
   unfoldable pub compiledProcedure : Procedure → Procedure
-  compiledProcedure p =
-      record {
-        place = 0;
-        mode = 0;
-        parameters = p .parameters + guards p;
-        result = p .result;
-        types = compiledTypes p;
-        body = compiledBody p;
-      }
+  compiledProcedure p = record {
+    place = 0;
+    mode = 0;
+    parameters = p .parameters + guards p;
+    result = p .result;
+    types = compiledTypes p;
+    body = compiledBody p;
+  }
 
   unfoldable pub compiledProcedures : List Procedure → List Procedure
   compiledProcedures some = map (λ p. compiledProcedure p) some
 
 unfoldable pub compiledImage : Image → Image
-compiledImage image =
-    record {
-      form = 1;
-      arrays = image .arrays;
-      procedures = compiledProcedures (image .procedures) (image .arrays) (image .procedures);
-    }
+compiledImage image = record {
+  form = 1;
+  arrays = image .arrays;
+  procedures = compiledProcedures (image .procedures) (image .arrays) (image .procedures);
+}
 
--- "15 result over form 1's limits": at most 246 locals each, 16,384 words in all. One parameter more than form 0 has is
--- within form 1's limit.
+-- "15 result over form 1's limits": 246 locals each, 16,384 words in all; one parameter more than in form 0 is within
 unfoldable pub fitLocals : List Procedure → Bool
 fitLocals [] = true
 fitLocals (p ∷ ps) = leb (length (p .types) - p .parameters) 246 && fitLocals ps

@@ -58,8 +58,7 @@ unfoldable mutual
 unfoldable pub blockWords : Block → List ℕ
 blockWords b = wordWith 5 (statementCount b) ∷ statementsWords b
 
--- "3 starts a procedure: mode × 65536 + parameters × 256 + locals"; "Result, parameters, locals; then the body, a
--- block."
+-- "3 starts a procedure: mode × 65536 + parameters × 256 + locals"; "then the body, a block."
 unfoldable pub procedureWords : Procedure → List ℕ
 procedureWords p = wordWith 3 (p .mode * 65536 + p .parameters * 256 + (length (p .types) - p .parameters))
     ∷ p .result ∷ (p .types ++ blockWords (p .body))

@@ -14,8 +14,7 @@ fault n p = record { number = n; place = p }
 abbrev pub noFault : Fault
 noFault = fault 0 0
 
--- whether the first goes before the second: it is a fault, and the second is none, or has a higher place, or on the
--- same word a higher number
+-- whether a fault goes before another: that one is none, or has a higher place, or on the same word a higher number
 abbrev pub before : Fault → Fault → Bool
 before a b = not (eqb (a .number) 0)
     && (eqb (b .number) 0 || (ltb (a .place) (b .place) || eqb (a .place) (b .place) && ltb (a .number) (b .number)))

@@ -72,7 +72,6 @@ unfoldable pub compiledWords : Compiled → List ℕ
 compiledWords (Written n) = layout 0 0 0 0 0 n
 compiledWords (CompileRefused k p) = layout 2 k p 0 0 0
 
--- what the slice that is lent for the answer holds afterwards: the seven words where there is room for them, else what
--- it held
+-- what the slice lent for the answer holds afterwards: the seven words where there is room for them, else what it held
 unfoldable pub answerBytes : List ℕ → List ℕ → List ℕ
 answerBytes slice words = pick (leb 28 (length slice)) (lent slice words) slice

@@ -127,20 +127,13 @@ rawWord w = leb 268435456 w
 
 -- An expression. The first number of each is the place of its first word.
 pub data Expression : Type 0 where
-  -- the value: kinds 7 and 8
-  constant : ℕ → ℕ → Expression
-  -- 0 or 1
-  boolean : ℕ → ℕ → Expression
-  -- the variable
-  variable : ℕ → ℕ → Expression
-  -- the array, the index
-  cell : ℕ → ℕ → Expression → Expression
-  -- the operator, the operand
-  unary : ℕ → ℕ → Expression → Expression
-  -- the operator, the operands
-  binary : ℕ → ℕ → Expression → Expression → Expression
-  -- the condition, the value if true, the value if false
-  select : ℕ → Expression → Expression → Expression → Expression
+  constant : ℕ → ℕ → Expression  -- the value: kinds 7 and 8
+  boolean : ℕ → ℕ → Expression  -- 0 or 1
+  variable : ℕ → ℕ → Expression  -- the variable
+  cell : ℕ → ℕ → Expression → Expression  -- the array, the index
+  unary : ℕ → ℕ → Expression → Expression  -- the operator, the operand
+  binary : ℕ → ℕ → Expression → Expression → Expression  -- the operator, the operands
+  select : ℕ → Expression → Expression → Expression → Expression  -- the condition, the value if true, the value if false
 
 -- the place of an expression's first word
 unfoldable pub placeOf : Expression → ℕ
@@ -155,18 +148,12 @@ placeOf (select p c e f) = p
 mutual
   -- a statement, without its place
   pub data Statement : Type 0 where
-    -- variable, value
-    assign : ℕ → Expression → Statement
-    -- array, index, value
-    store : ℕ → Expression → Expression → Statement
-    -- if: condition, then-block, else-block
-    conditional : Expression → Block → Block → Statement
-    -- for: variable, from, to, block
-    loop : ℕ → Expression → Expression → Block → Statement
-    -- value
-    return : Expression → Statement
-    -- procedure, result variable, one value per parameter
-    call : ℕ → ℕ → List Expression → Statement
+    assign : ℕ → Expression → Statement  -- variable, value
+    store : ℕ → Expression → Expression → Statement  -- array, index, value
+    conditional : Expression → Block → Block → Statement  -- if: condition, then-block, else-block
+    loop : ℕ → Expression → Expression → Block → Statement  -- for: variable, from, to, block
+    return : Expression → Statement  -- value
+    call : ℕ → ℕ → List Expression → Statement  -- procedure, result variable, one value per parameter
 
   -- statements in order, each behind the place of its word
   pub data Block : Type 0 where

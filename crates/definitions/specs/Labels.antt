@@ -1,6 +1,5 @@
 -- Document 01, "Labels": labels, the context, and the faults 9 to 13.
--- pc and rc are Bools: true is secret. All faults are listed, in the order of the words; the answer is the least of
--- them (Faults).
+-- pc and rc are Bools: true is secret. All faults are listed, in the words' order; the answer is the least (Faults).
 use Prim.Native.Nat.{ℕ, _+_}
 use mathlib.Core.Bool.{Bool, true, false, _&&_, _||_, not}
 use mathlib.Core.List.{List, [], _∷_, _++_, flatMap}
@@ -63,8 +62,7 @@ module _ (types arrays : List ℕ) where
     rcAfterBlock pc rc done = rc
     rcAfterBlock pc rc (sequence p s b) = rcAfterBlock pc (rcAfter pc rc s) b
 
--- Of each variable, the upper bound of the for over it that encloses this place and has constant bounds; `unbounded`,
--- above every length, where there is none.
+-- Of each variable, the upper bound of the enclosing for over it with constant bounds; else more than any length.
 abbrev pub unbounded : ℕ
 unbounded = 0xFFFFFFFF
 

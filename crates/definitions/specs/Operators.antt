@@ -16,8 +16,7 @@ wordSort = 0
 abbrev pub booleanSort : ℕ
 booleanSort = 1
 
--- "shift counts and both sides of a division are public": which operands of an operator have to be, the right one being
--- a shift's count
+-- "shift counts and both sides of a division are public": which operands have to be; a shift's count is the right one
 abbrev pub neither : ℕ
 neither = 0
 

@@ -1,6 +1,5 @@
 -- Document 01, "Image words" and "From the image or request": reading words into the tree, or the refusal 1 to 5 with
--- its place. "Reading stops at its first fault": the parts are read in the order of their words, and each is begun only
--- where the one before it was read.
+-- its place. "Reading stops at its first fault": a part is begun only where the one before it was read.
 use Prim.Native.Nat.{ℕ, zero, suc, _+_, _-_}
 use mathlib.Core.Bool.{Bool, _&&_}
 use mathlib.Core.List.{List, [], _∷_}
@@ -14,8 +13,7 @@ use Rattle.definitions.specs.Image.{kindOf, payloadOf, expressionWord, r
 use Rattle.definitions.specs.Image.{variable, cell, unary, binary, select, Statement, assign, store, conditional}
 use Rattle.definitions.specs.Image.{loop, return, call, Block, done, sequence, Procedure, Image}
 
--- What reading at a place gives: the part that was read with the place after it, or the refusal with its number and
--- place.
+-- What reading at a place gives: the part that was read with the place after it, or the refusal's number and place.
 pub data Parse (A : Type 0) : Type 0 where
   got : A → ℕ → Parse A
   refused : ℕ → ℕ → Parse A
@@ -34,8 +32,7 @@ abbrev pub onWord : {A : Type 0} → List ℕ → ℕ → (ℕ → Bool) → (�
 onWord image at good f = pick (leb (length image) at) (refused 3 (length image))
     (pick (good (getD image at 0)) (f (getD image at 0)) (refused 2 at))
 
--- What stands after an expression's first word, a row for each kind from 7 on, given the payload; `operand` reads an
--- operand at a place.
+-- What stands after an expression's first word, a row for each kind from 7 on, given the payload
 abbrev pub expressionRows : Reader Expression → List ℕ → ℕ → List (ℕ → Parse Expression)
 expressionRows operand image at = (λ p. got (constant at p) (at + 1))
     ∷ (λ p. onWord image (at + 1) rawWord (λ v. got (constant at v) (at + 1 + 1))) ∷ (λ p. got (boolean at p) (at + 1))
@@ -49,8 +46,7 @@ abbrev pub expressionAt : Reader Expression → List ℕ → ℕ → ℕ → Par
 expressionAt operand image at w =
     getD (expressionRows operand image at) (kindOf w - 7) (λ p. refused 2 at) (payloadOf w)
 
--- "Expressions, operator first." The first argument is the number of levels that are left: "5 [word] too deep" where
--- there is none.
+-- "Expressions, operator first." The first argument is the number of levels left; where none is, "5 [word] too deep".
 unfoldable pub readExpression : ℕ → List ℕ → ℕ → Parse Expression
 readExpression zero image at = onWord image at expressionWord (λ w. refused 5 at)
 readExpression (suc l) image at =
@@ -68,8 +64,7 @@ readStatements zero statement at = got done at
 readStatements (suc n) statement at =
     andThen (statement at) (λ s m. andThen (readStatements n statement m) (λ b o. got (sequence at s b) o))
 
--- What stands after a statement's word, a row for each op, given what the op is aimed at; `params` has the number of
--- parameters of each procedure before this one.
+-- What stands after a statement's word, a row for each op, given q; `params`: the procedures' numbers of parameters.
 abbrev pub statementRows : Reader Expression → Reader Block → List ℕ → ℕ → ℕ → List (ℕ → Parse Statement)
 statementRows operand block params at w = (λ q. andThen (operand (at + 1)) (λ e n. got (assign q e) n))
     ∷ (λ q. andThen (operand (at + 1)) (λ i n. andThen (operand n) (λ e m. got (store q i e) m)))

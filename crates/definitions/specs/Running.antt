@@ -91,8 +91,7 @@ module _ {T : Type 0} (tracing : Trace T) (arrays : List ℕ) where
   evaluateAll (e ∷ es) vars cells trace = bind (evaluate e vars cells trace)
       (λ v t₁. bind (evaluateAll es vars cells t₁) (λ ws t₂. value (v ∷ ws) t₂))
 
--- What a statement or block comes to: on to the next, with the variables and the cells; or back with a return's value,
--- and the cells.
+-- What a statement or block comes to: on to the next, with variables and cells; or back with a return's value and cells.
 pub data Outcome : Type 0 where
   next : List ℕ → List ℕ → Outcome
   back : ℕ → List ℕ → Outcome

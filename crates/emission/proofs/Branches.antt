@@ -1,295 +1,329 @@
 -- What the returns of ifs, fors and bodies give, and what their calls ask. Assumes nothing.
-use Prim.Native.Nat.{ℕ, _+_, _-_, _≤_}
+use Prim.Native.Nat.{ℕ, _+_, _-_}
 use mathlib.Core.Bool.{Bool, true, false, _||_}
 use mathlib.Core.List.{List, _∷_, _++_}
 use mathlib.Core.Path.{_≡_, refl, sym, ap, _∙_}
 use native.Mathlib.Omega.{arith}
 use lib.ListN.{length, getD, length-append}
-use Rattle.definitions.specs.Image.{opOf, targetOf, Expression, variable, unary, assign, conditional, loop, Block}
+use Rattle.definitions.specs.Image.{opOf, targetOf, Expression, conditional, loop, Block, Procedure}
 use Rattle.definitions.specs.Reading.{Parse, got, refused, readExpression, readStatement, readBlock}
 use Rattle.definitions.specs.Labels.{secretIn, rcAfterBlock}
-use Rattle.definitions.specs.Encoding.{wordWith, statementWordWith, expressionWords, statementCount, statementWords}
-use Rattle.definitions.specs.Encoding.{statementsWords, blockWords}
-use Rattle.definitions.specs.Compiling.{renamed, moved, act, under, one, blockTemporaries, compiledBlock}
+use Rattle.definitions.specs.Encoding.{wordWith, statementWordWith, expressionWords, statementCount, statementsWords, blockWords}
+use Rattle.definitions.specs.Compiling.{renamed, moved, blockTemporaries, compiledBlock}
 use Rattle.laws.specs.Parses.{ok, got-ok, endOf, end-of}
 use Rattle.laws.specs.StatementInversion.{open-if, open-for}
-use Rattle.tape.specs.Tape.{Tape, write, writes}
-use Rattle.tape.specs.Laws.{writes-on, writes-app, patched}
-use Rattle.contexts.specs.Fine.{FineBlock}
+use Rattle.laws.specs.Tests.{or-true, or-false}
+use Rattle.image_words.specs.Read.{BlockRead}
+use Rattle.image_words.specs.StatementParts.{read-then, read-else, read-body}
+use Rattle.writer.specs.Writing.{Output, write, writes}
+use Rattle.writer.specs.Laws.{writes-on, writes-app, patched}
 use Rattle.contexts.specs.Context.{seen, passedBlock}
 use Rattle.contexts.specs.declared.Passed.{Passed}
 use Rattle.contexts.specs.declared.Seen.{Seen}
-use Rattle.contexts.specs.StatementParts.{fine-then, fine-else, fine-body}
 use Rattle.copying.specs.Copy.{Copied, spot}
 use Rattle.copying.specs.declared.Spot.{Spot}
-use Rattle.masking.specs.Forms.{conditioned}
-use Rattle.emission.specs.Callees.{calleesOf}
-use Rattle.emission.specs.Emitted.{Emission, outcome, emitted, emittedBlock, emittedBody, ifHead, forHead}
+use Rattle.masking.specs.Forms.{conditionWords, conditioned}
+use Rattle.masking.specs.declared.Act.{Act}
+use Rattle.emission.specs.Emitted.{Emission, outcome, actAt, blockCode, afterBlock, emitted, emittedBlock, emittedBody, ifHead, forHead}
+use Rattle.emission.specs.Following.{one-count}
+use Rattle.emission.specs.declared.Scope.{Scope}
 use Rattle.emission.specs.declared.Cursor.{Cursor}
-use Rattle.emission.proofs.Outcomes.{outcome-eq, single-count, or-false, or-true}
-use Rattle.emission.proofs.Shapes.{secret-count, secret-words, public-count, public-words, if-step}
+use Rattle.emission.proofs.Outcomes.{outcome-eq}
+use Rattle.emission.proofs.Shapes.{armCode, armSize, secret-count, secret-words, public-count, public-words, if-step}
 use Rattle.emission.proofs.Shapes.{if-temporaries, if-rc, for-step, for-temporaries, for-rc, for-words}
+
+-- the scope of a secret arm, and a cursor at other places
+abbrev inArm : Scope → ℕ → Scope
+inArm s v = record { me = s .me; pc = true; arm = v; first = s .first; rv = s .rv }
+
+abbrev moveTo : Cursor → ℕ → ℕ → Cursor
+moveTo c at o = record { at = at; o = o; n = c .n; k = c .k; rc = c .rc }
 
 -- ---- where the parts end
 
-pub condition-end : (first k : ℕ) (pc : Bool) (arm : ℕ) (rc : Bool) (live o : ℕ) (out : List ℕ) (x : Parse Expression) (c : Spot) (t : List ℕ)
-    → _≡_ {A = Copied} (c, t) (conditioned first k pc arm rc live o out x) → c .at ≡ endOf x
+condition-end : (first k : ℕ) (a : Act) (o : ℕ) (out : List ℕ) (x : Parse Expression) (v : Spot) (t : List ℕ)
+    → _≡_ {A = Copied} (v, t) (conditioned first k a o out x) → v .at ≡ endOf x
 unfolding conditioned endOf
-condition-end first k pc arm rc live o out (got e n) c t q = ap (λ (z : Copied). z .0 .at) q
-condition-end first k pc arm rc live o out (refused n p) c t q = ap (λ (z : Copied). z .0 .at) q
+condition-end first k a o out (got e n) v t q = ap (λ (z : Copied). z .0 .at) q
+condition-end first k a o out (refused n p) v t q = ap (λ (z : Copied). z .0 .at) q
 
-pub if-head-end : (first o : ℕ) (out : List ℕ) (x : Parse Expression) (c : Spot) (t : List ℕ) → _≡_ {A = Copied} (c, t) (ifHead first o out x) → c .at ≡ endOf x
+if-head-end : (first o : ℕ) (out : List ℕ) (x : Parse Expression) (v : Spot) (t : List ℕ) → _≡_ {A = Copied} (v, t) (ifHead first o out x) → v .at ≡ endOf x
 unfolding ifHead endOf
-if-head-end first o out (got e n) c t q = ap (λ (z : Copied). z .0 .at) q
-if-head-end first o out (refused n p) c t q = ap (λ (z : Copied). z .0 .at) q
+if-head-end first o out (got e n) v t q = ap (λ (z : Copied). z .0 .at) q
+if-head-end first o out (refused n p) v t q = ap (λ (z : Copied). z .0 .at) q
 
-pub for-head-end : (first y o : ℕ) (out : List ℕ) (x z : Parse Expression) (h : Spot) (t : List ℕ) → ok x ≡ true
-    → _≡_ {A = Copied} (h, t) (forHead first y o out x z) → h .at ≡ endOf z
-unfolding forHead endOf ok
-for-head-end first y o out (got a n) (got b m) h t k q = ap (λ (z : Copied). z .0 .at) q
-for-head-end first y o out (got a n) (refused m p) h t k q = ap (λ (z : Copied). z .0 .at) q
-for-head-end first y o out (refused n p) z h t k q = absurd (let e : _≡_ {A = ℕ} 0 1 = ap (λ (b : Bool). count b) k in omega arith)
+for-head-end : (first y o : ℕ) (out : List ℕ) (x z : Parse Expression) (v : Spot) (t : List ℕ) (e : Expression) (n : ℕ) → x ≡ got e n
+    → _≡_ {A = Copied} (v, t) (forHead first y o out x z) → v .at ≡ endOf z
+unfolding forHead endOf
+for-head-end first y o out x z v t e n h q = go z (q ∙ ap (λ w. forHead first y o out w z) h)
   where
-    count : Bool → ℕ
-    count true = 1
-    count false = 0
+    go : (w : Parse Expression) → _≡_ {A = Copied} (v, t) (forHead first y o out (got e n) w) → v .at ≡ endOf w
+    go (got f m) p = ap (λ (u : Copied). u .0 .at) p
+    go (refused m r) p = ap (λ (u : Copied). u .0 .at) p
 
-module _ (cs arrays types : List ℕ) (first rv : ℕ) (pc : Bool) (arm : ℕ) (rc : Bool) (o n k : ℕ) (out : List ℕ) (x : Parse Block) (c : Cursor) (t : List ℕ) where
-  pub block-end : _≡_ {A = Emission} (c, t) (emittedBlock cs arrays types first rv pc arm rc o n k out x) → c .at ≡ endOf x
+module _ (ps : List Procedure) (arrays types : List ℕ) (s : Scope) (c : Cursor) (out : List ℕ) (x : Parse Block) (d : Cursor) (t : List ℕ) where
+  block-end : _≡_ {A = Emission} (d, t) (emittedBlock ps arrays types s c out x) → d .at ≡ endOf x
   unfolding emittedBlock endOf
   block-end e = ap (λ (z : Emission). z .0 .at) e ∙ go x
     where
-      go : (y : Parse Block) → emittedBlock cs arrays types first rv pc arm rc o n k out y .0 .at ≡ endOf y
+      go : (y : Parse Block) → emittedBlock ps arrays types s c out y .0 .at ≡ endOf y
       go (got b m) = refl
       go (refused m p) = refl
 
-  pub body-end : _≡_ {A = Emission} (c, t) (emittedBody cs arrays types first rv pc arm rc o n k out x) → c .at ≡ endOf x
+  body-end : _≡_ {A = Emission} (d, t) (emittedBody ps arrays types s c out x) → d .at ≡ endOf x
   unfolding emittedBody endOf
   body-end e = ap (λ (z : Emission). z .0 .at) e ∙ go x
     where
-      go : (y : Parse Block) → emittedBody cs arrays types first rv pc arm rc o n k out y .0 .at ≡ endOf y
+      go : (y : Parse Block) → emittedBody ps arrays types s c out y .0 .at ≡ endOf y
       go (got b m) = refl
       go (refused m p) = refl
 
--- ---- a body
+-- ---- blocks and bodies
 
-module _ (cs arrays types : List ℕ) (first rv : ℕ) (pc : Bool) (arm : ℕ) (rc : Bool) (o k : ℕ) (out : List ℕ) where
-  pub body-on : (x : Parse Block) → ok x ≡ true → (p : ℕ) (t1 : List ℕ) (c : Cursor) (t2 t3 : List ℕ) → _≡_ {A = Tape} (p, t1) (write o out 0)
-      → _≡_ {A = Emission} (c, t2) (emittedBlock cs arrays types first rv pc arm rc p 0 k t1 x) → t3 ≡ write o t2 (1342177280 + c .n) .1
-      → _≡_ {A = Emission} (c, t3) (emittedBody cs arrays types first rv pc arm rc o 0 k out x)
+module _ (ps : List Procedure) (arrays types : List ℕ) (s : Scope) (c : Cursor) where
+  pub body-on : (out : List ℕ) (x : Parse Block) → ok x ≡ true → (p : ℕ) (t1 : List ℕ) (d : Cursor) (t2 t3 : List ℕ) (w : ℕ)
+      → _≡_ {A = Output} (p, t1) (write (c .o) out 0)
+      → _≡_ {A = Emission} (d, t2) (emittedBlock ps arrays types s (record { at = c .at; o = p; n = 0; k = c .k; rc = c .rc }) t1 x)
+      → w ≡ wordWith 5 (d .n) → t3 ≡ write (c .o) t2 w .1
+      → _≡_ {A = Emission} (d, t3) (emittedBody ps arrays types s c out x)
   unfolding emittedBlock emittedBody blockWords
-  body-on x h p t1 c t2 t3 e f g =
+  body-on out x h p t1 d t2 t3 w e f hw g =
       let (b, m, q) = got-ok x h in
-      let B = compiledBlock (calleesOf cs) arrays types first rv b pc arm rc k in
-      let K = k + length (blockTemporaries (calleesOf cs) arrays types pc rc b) in
-      let R = rcAfterBlock types arrays pc rc b in
-      let z : 1342177280 + (0 + statementCount B) ≡ wordWith 5 (statementCount B) = omega arith in
-      let d : _≡_ {A = Emission} (c, t2) (outcome m (0 + statementCount B) K R (writes o out (0 ∷ statementsWords B))) =
-      f ∙ ap (λ (y : Tape). emittedBlock cs arrays types first rv pc arm rc (y .0) 0 k (y .1) x) e
-      ∙ ap (λ y. emittedBlock cs arrays types first rv pc arm rc (write o out 0 .0) 0 k (write o out 0 .1) y) q
-      ∙ ap (λ (y : Tape). outcome m (0 + statementCount B) K R y) (sym (writes-on o out 0 (statementsWords B))) in
-      ap (λ t. (c, t)) g ∙ ap (λ (y : Emission). (y .0, write o (y .1) (1342177280 + y .0 .n) .1)) d
-      ∙ ap (λ w. outcome m (0 + statementCount B) K R (writes o out (0 ∷ statementsWords B) .0, write o (writes o out (0 ∷ statementsWords B) .1) w .1)) z
-      ∙ ap (λ (y : Tape). outcome m (0 + statementCount B) K R y) (patched o out 0 (wordWith 5 (statementCount B)) (statementsWords B))
-      ∙ ap (λ y. emittedBody cs arrays types first rv pc arm rc o 0 k out y) (sym q)
+      let B = blockCode ps arrays types s c b in
+      let z : 0 + statementCount B ≡ statementCount B = omega arith in
+      let D : _≡_ {A = Emission} (d, t2) (afterBlock ps arrays types s c b m (0 + statementCount B) (writes (c .o) out (0 ∷ statementsWords B))) =
+      f ∙ ap (λ (y : Output). emittedBlock ps arrays types s (record { at = c .at; o = y .0; n = 0; k = c .k; rc = c .rc }) (y .1) x) e
+      ∙ ap (λ y. emittedBlock ps arrays types s (record { at = c .at; o = write (c .o) out 0 .0; n = 0; k = c .k; rc = c .rc }) (write (c .o) out 0 .1) y) q
+      ∙ ap (λ (y : Output). afterBlock ps arrays types s c b m (0 + statementCount B) y) (sym (writes-on (c .o) out 0 (statementsWords B))) in
+      ap (λ t. (d, t)) (g ∙ ap (λ (y : ℕ). write (c .o) t2 y .1) hw)
+      ∙ ap (λ (y : Emission). (y .0, write (c .o) (y .1) (wordWith 5 (y .0 .n)) .1))
+      (D ∙ ap (λ (y : ℕ). afterBlock ps arrays types s c b m y (writes (c .o) out (0 ∷ statementsWords B))) z)
+      ∙ ap (λ (y : Output). afterBlock ps arrays types s c b m (statementCount B) y) (patched (c .o) out 0 (wordWith 5 (statementCount B)) (statementsWords B))
+      ∙ ap (λ y. emittedBody ps arrays types s c out y) (sym q)
 
   -- a block or a body behind other words
-  pub block-got : (n : ℕ) (x : Parse Block) (b : Block) (m : ℕ) (ws : List ℕ) → x ≡ got b m
-      → emittedBlock cs arrays types first rv pc arm rc (writes o out ws .0) n k (writes o out ws .1) x
-      ≡ outcome m (n + statementCount (compiledBlock (calleesOf cs) arrays types first rv b pc arm rc k))
-      (k + length (blockTemporaries (calleesOf cs) arrays types pc rc b)) (rcAfterBlock types arrays pc rc b)
-      (writes o out (ws ++ statementsWords (compiledBlock (calleesOf cs) arrays types first rv b pc arm rc k)))
-  unfolding emittedBlock
-  block-got n x b m ws q = rw (q, writes-app ws (statementsWords (compiledBlock (calleesOf cs) arrays types first rv b pc arm rc k)) o out)
+  module _ (at o : ℕ) (out : List ℕ) (x : Parse Block) (b : Block) (m : ℕ) (ws : List ℕ) (q : x ≡ got b m) where
+    block-got : emittedBlock ps arrays types s (moveTo c at (writes o out ws .0)) (writes o out ws .1) x
+        ≡ afterBlock ps arrays types s c b m (c .n + statementCount (blockCode ps arrays types s c b))
+        (writes o out (ws ++ statementsWords (blockCode ps arrays types s c b)))
+    unfolding emittedBlock
+    block-got = rw (q, writes-app ws (statementsWords (blockCode ps arrays types s c b)) o out)
 
-  pub body-got : (n : ℕ) (x : Parse Block) (b : Block) (m : ℕ) (ws : List ℕ) → x ≡ got b m
-      → emittedBody cs arrays types first rv pc arm rc (writes o out ws .0) n k (writes o out ws .1) x
-      ≡ outcome m (n + statementCount (compiledBlock (calleesOf cs) arrays types first rv b pc arm rc k))
-      (k + length (blockTemporaries (calleesOf cs) arrays types pc rc b)) (rcAfterBlock types arrays pc rc b)
-      (writes o out (ws ++ blockWords (compiledBlock (calleesOf cs) arrays types first rv b pc arm rc k)))
-  unfolding emittedBody
-  body-got n x b m ws q = rw (q, writes-app ws (blockWords (compiledBlock (calleesOf cs) arrays types first rv b pc arm rc k)) o out)
+    body-got : emittedBody ps arrays types s (moveTo c at (writes o out ws .0)) (writes o out ws .1) x
+        ≡ afterBlock ps arrays types s c b m (statementCount (blockCode ps arrays types s c b))
+        (writes o out (ws ++ blockWords (blockCode ps arrays types s c b)))
+    unfolding emittedBody
+    body-got = rw (q, writes-app ws (blockWords (blockCode ps arrays types s c b)) o out)
 
 -- ---- ifs
 
-module _ (cs arrays types : List ℕ) (first rv : ℕ) (pc : Bool) (arm : ℕ) (rc : Bool) (o n k : ℕ) (out : List ℕ) (d : Expression) (a b : Block) (m : ℕ) where
+module _ (ps : List Procedure) (arrays types : List ℕ) (s : Scope) (c : Cursor) (out : List ℕ) (d : Expression) (a b : Block) (m : ℕ) where
   -- the pure equation of a secret if
   secret-all : secretIn types arrays d ≡ true
-      → outcome m (n + 2 + statementCount (compiledBlock (calleesOf cs) arrays types first rv a true k rc (k + 2))
-      + statementCount (compiledBlock (calleesOf cs) arrays types first rv b true (k + 1) rc (k + 2 + length (blockTemporaries (calleesOf cs) arrays types true rc a))))
-      (k + 2 + length (blockTemporaries (calleesOf cs) arrays types true rc a) + length (blockTemporaries (calleesOf cs) arrays types true rc b))
-      (rcAfterBlock types arrays true rc a || rcAfterBlock types arrays true rc b)
-      (writes o out (((statementWords (assign k (under (pc || rc) (act pc arm rc (rv + 1)) (moved first d)))
-      ++ statementWords (assign (k + 1) (under (pc || rc) (act pc arm rc (rv + 1)) (unary 0 0 (variable 0 k)))))
-      ++ statementsWords (compiledBlock (calleesOf cs) arrays types first rv a true k rc (k + 2)))
-      ++ statementsWords (compiledBlock (calleesOf cs) arrays types first rv b true (k + 1) rc (k + 2 + length (blockTemporaries (calleesOf cs) arrays types true rc a)))))
-      ≡ emitted cs arrays types first rv pc arm rc o n k out (got (conditional d a b) m)
+      → outcome m (c .n + 2 + statementCount (armCode ps arrays types s c a true (c .k) (c .k + 2))
+      + statementCount (armCode ps arrays types s c b true (c .k + 1) (c .k + 2 + armSize ps arrays types s c true a)))
+      (c .k + 2 + armSize ps arrays types s c true a + armSize ps arrays types s c true b)
+      (rcAfterBlock types arrays true (c .rc) a || rcAfterBlock types arrays true (c .rc) b)
+      (writes (c .o) out ((conditionWords (c .k) (actAt s c) (moved (s .first) d)
+      ++ statementsWords (armCode ps arrays types s c a true (c .k) (c .k + 2)))
+      ++ statementsWords (armCode ps arrays types s c b true (c .k + 1) (c .k + 2 + armSize ps arrays types s c true a))))
+      ≡ emitted ps arrays types s c out (got (conditional d a b) m)
   unfolding emitted
   secret-all h =
       rw (
-        if-step (calleesOf cs) arrays types first rv pc arm rc k d a b,
-        if-temporaries (calleesOf cs) arrays types first rv pc arm rc k d a b,
-        if-rc (calleesOf cs) arrays types first rv pc arm rc k d a b,
+        if-step ps arrays types s c d a b,
+        if-temporaries ps arrays types s c d a b,
+        if-rc ps arrays types s c d a b,
         h,
-        or-true pc,
+        or-true (s .pc),
       )
       (outcome-eq m _ _ _ _ _ _ _
-      (let z = secret-count pc arm rc (rv + 1) k (moved first d) (length (blockTemporaries (calleesOf cs) arrays types true rc a))
-      (λ q v i. compiledBlock (calleesOf cs) arrays types first rv a q v rc i) (λ q v i. compiledBlock (calleesOf cs) arrays types first rv b q v rc i) in
-      omega arith)
-      (let z = length-append (blockTemporaries (calleesOf cs) arrays types true rc a) (blockTemporaries (calleesOf cs) arrays types true rc b) in omega arith)
-      (ap (λ ws. writes o out ws) (sym (secret-words pc arm rc (rv + 1) k (moved first d) (length (blockTemporaries (calleesOf cs) arrays types true rc a))
-      (λ q v i. compiledBlock (calleesOf cs) arrays types first rv a q v rc i) (λ q v i. compiledBlock (calleesOf cs) arrays types first rv b q v rc i)))))
+      (let z = secret-count (actAt s c) (c .k) (moved (s .first) d) (armSize ps arrays types s c true a) (armCode ps arrays types s c a)
+      (armCode ps arrays types s c b) in omega arith)
+      (let z = length-append (blockTemporaries ps arrays types true (c .rc) a) (blockTemporaries ps arrays types true (c .rc) b) in omega arith)
+      (ap (λ ws. writes (c .o) out ws) (sym (secret-words (actAt s c) (c .k) (moved (s .first) d) (armSize ps arrays types s c true a)
+      (armCode ps arrays types s c a) (armCode ps arrays types s c b)))))
 
   public-all : secretIn types arrays d ≡ false
-      → outcome m (n + 1)
-      (k + length (blockTemporaries (calleesOf cs) arrays types pc rc a) + length (blockTemporaries (calleesOf cs) arrays types pc rc b))
-      (rcAfterBlock types arrays pc rc a || rcAfterBlock types arrays pc rc b)
-      (writes o out (((statementWordWith 2 0 ∷ expressionWords (moved first d))
-      ++ blockWords (compiledBlock (calleesOf cs) arrays types first rv a pc arm rc k))
-      ++ blockWords (compiledBlock (calleesOf cs) arrays types first rv b pc arm rc (k + length (blockTemporaries (calleesOf cs) arrays types pc rc a)))))
-      ≡ emitted cs arrays types first rv pc arm rc o n k out (got (conditional d a b) m)
+      → outcome m (c .n + 1) (c .k + armSize ps arrays types s c (s .pc) a + armSize ps arrays types s c (s .pc) b)
+      (rcAfterBlock types arrays (s .pc) (c .rc) a || rcAfterBlock types arrays (s .pc) (c .rc) b)
+      (writes (c .o) out (((statementWordWith 2 0 ∷ expressionWords (moved (s .first) d))
+      ++ blockWords (armCode ps arrays types s c a (s .pc) (s .arm) (c .k)))
+      ++ blockWords (armCode ps arrays types s c b (s .pc) (s .arm) (c .k + armSize ps arrays types s c (s .pc) a))))
+      ≡ emitted ps arrays types s c out (got (conditional d a b) m)
   unfolding emitted
   public-all h =
       rw (
-        if-step (calleesOf cs) arrays types first rv pc arm rc k d a b,
-        if-temporaries (calleesOf cs) arrays types first rv pc arm rc k d a b,
-        if-rc (calleesOf cs) arrays types first rv pc arm rc k d a b,
+        if-step ps arrays types s c d a b,
+        if-temporaries ps arrays types s c d a b,
+        if-rc ps arrays types s c d a b,
         h,
-        or-false pc,
+        or-false (s .pc),
       )
       (outcome-eq m _ _ _ _ _ _ _
-      (ap (λ z. n + z) (sym (public-count pc arm rc (rv + 1) k (moved first d) (length (blockTemporaries (calleesOf cs) arrays types pc rc a))
-      (λ q v i. compiledBlock (calleesOf cs) arrays types first rv a q v rc i) (λ q v i. compiledBlock (calleesOf cs) arrays types first rv b q v rc i))))
-      (let z = length-append (blockTemporaries (calleesOf cs) arrays types pc rc a) (blockTemporaries (calleesOf cs) arrays types pc rc b) in omega arith)
-      (ap (λ ws. writes o out ws) (sym (public-words pc arm rc (rv + 1) k (moved first d) (length (blockTemporaries (calleesOf cs) arrays types pc rc a))
-      (λ q v i. compiledBlock (calleesOf cs) arrays types first rv a q v rc i) (λ q v i. compiledBlock (calleesOf cs) arrays types first rv b q v rc i)))))
+      (ap (λ z. c .n + z) (sym (public-count (actAt s c) (c .k) (moved (s .first) d) (armSize ps arrays types s c (s .pc) a)
+      (armCode ps arrays types s c a) (armCode ps arrays types s c b))))
+      (let z = length-append (blockTemporaries ps arrays types (s .pc) (c .rc) a) (blockTemporaries ps arrays types (s .pc) (c .rc) b) in omega arith)
+      (ap (λ ws. writes (c .o) out ws) (sym (public-words (actAt s c) (c .k) (moved (s .first) d) (armSize ps arrays types s c (s .pc) a)
+      (armCode ps arrays types s c a) (armCode ps arrays types s c b)))))
 
 -- the label of a condition that was read
 label-of : (types arrays : List ℕ) (x : Parse Expression) (d : Expression) (m : ℕ) (s : Bool) → x ≡ got d m → seen types arrays x .secret ≡ s → secretIn types arrays d ≡ s
 unfolding seen
 label-of types arrays x d m s q h = sym (ap (λ z. seen types arrays z .secret) q) ∙ h
 
-module _ (cs arrays types : List ℕ) (first rv : ℕ) (pc : Bool) (arm : ℕ) (rc : Bool) (o n k : ℕ) (out : List ℕ)
-    (l : ℕ) (params : List ℕ) (me : ℕ) (image : List ℕ) (at : ℕ) (t : ok (readStatement l params me image at) ≡ true)
-    (two : opOf (getD image at 0) ≡ 2) (c : Spot) (t1 : List ℕ) (x : Cursor) (t2 : List ℕ) (y : Cursor) (t3 : List ℕ) where
-  pub secret-if-on : seen types arrays (readExpression (l - 1) image (at + 1)) .secret ≡ true
-      → _≡_ {A = Copied} (c, t1) (conditioned first k pc arm rc (rv + 1) o out (readExpression (l - 1) image (at + 1)))
-      → _≡_ {A = Emission} (x, t2) (emittedBlock cs arrays types first rv true k rc (c .o) (n + 2) (k + 2) t1 (readBlock (l - 1) params me image (c .at)))
-      → _≡_ {A = Emission} (y, t3) (emittedBlock cs arrays types first rv true (k + 1) rc (x .o) (x .n) (x .k) t2 (readBlock (l - 1) params me image (x .at)))
-      → _≡_ {A = Emission} (record { at = y .at; o = y .o; n = y .n; k = y .k; rc = x .rc || y .rc }, t3)
-      (emitted cs arrays types first rv pc arm rc o n k out (readStatement l params me image at))
-  unfolding conditioned
-  secret-if-on h e f g =
-      let (d, i, a, j, b, p, q, r, s, u) = open-if l params me image at t two in
-      let W = statementWords (assign k (under (pc || rc) (act pc arm rc (rv + 1)) (moved first d)))
-      ++ statementWords (assign (k + 1) (under (pc || rc) (act pc arm rc (rv + 1)) (unary 0 0 (variable 0 k)))) in
-      let A = compiledBlock (calleesOf cs) arrays types first rv a true k rc (k + 2) in
-      let TA = length (blockTemporaries (calleesOf cs) arrays types true rc a) in
-      let E : _≡_ {A = Copied} (c, t1) (spot i (writes o out W)) = e ∙ ap (λ z. conditioned first k pc arm rc (rv + 1) o out z) q in
-      let F : _≡_ {A = Emission} (x, t2)
-      (outcome j (n + 2 + statementCount A) (k + 2 + TA) (rcAfterBlock types arrays true rc a) (writes o out (W ++ statementsWords A))) =
-      f ∙ ap (λ (z : Copied). emittedBlock cs arrays types first rv true k rc (z .0 .o) (n + 2) (k + 2) (z .1) (readBlock (l - 1) params me image (z .0 .at))) E
-      ∙ block-got cs arrays types first rv true k rc o (k + 2) out (n + 2) (readBlock (l - 1) params me image i) a j W r in
-      let G = g ∙ ap (λ (z : Emission). emittedBlock cs arrays types first rv true (k + 1) rc (z .0 .o) (z .0 .n) (z .0 .k) (z .1) (readBlock (l - 1) params me image (z .0 .at))) F
-      ∙ block-got cs arrays types first rv true (k + 1) rc o (k + 2 + TA) out (n + 2 + statementCount A) (readBlock (l - 1) params me image j) b p (W ++ statementsWords A) s in
-      ap (λ (z : Emission). outcome (z .0 .at) (z .0 .n) (z .0 .k) (x .rc || z .0 .rc) (z .0 .o, z .1)) G
-      ∙ ap (λ (z : Emission). outcome p (n + 2 + statementCount A + statementCount (compiledBlock (calleesOf cs) arrays types first rv b true (k + 1) rc (k + 2 + TA)))
-      (k + 2 + TA + length (blockTemporaries (calleesOf cs) arrays types true rc b)) (z .0 .rc || rcAfterBlock types arrays true rc b)
-      (writes o out ((W ++ statementsWords A) ++ statementsWords (compiledBlock (calleesOf cs) arrays types first rv b true (k + 1) rc (k + 2 + TA))))) F
-      ∙ secret-all cs arrays types first rv pc arm rc o n k out d a b p (label-of types arrays _ d i true q h)
-      ∙ ap (λ z. emitted cs arrays types first rv pc arm rc o n k out z) (sym u)
+pub label-is : (types arrays : List ℕ) (x : Parse Expression) (r : Seen) (s : Bool) → r ≡ seen types arrays x → r .secret ≡ s → seen types arrays x .secret ≡ s
+label-is types arrays x r s e h = sym (ap (λ (z : Seen). z .secret) e) ∙ h
 
-  pub public-if-on : seen types arrays (readExpression (l - 1) image (at + 1)) .secret ≡ false
-      → _≡_ {A = Copied} (c, t1) (ifHead first o out (readExpression (l - 1) image (at + 1)))
-      → _≡_ {A = Emission} (x, t2) (emittedBody cs arrays types first rv pc arm rc (c .o) 0 k t1 (readBlock (l - 1) params me image (c .at)))
-      → _≡_ {A = Emission} (y, t3) (emittedBody cs arrays types first rv pc arm rc (x .o) 0 (x .k) t2 (readBlock (l - 1) params me image (x .at)))
-      → _≡_ {A = Emission} (record { at = y .at; o = y .o; n = n + 1; k = y .k; rc = x .rc || y .rc }, t3)
-      (emitted cs arrays types first rv pc arm rc o n k out (readStatement l params me image at))
-  unfolding ifHead
-  public-if-on h e f g =
-      let (d, i, a, j, b, p, q, r, s, u) = open-if l params me image at t two in
-      let W = statementWordWith 2 0 ∷ expressionWords (moved first d) in
-      let A = compiledBlock (calleesOf cs) arrays types first rv a pc arm rc k in
-      let TA = length (blockTemporaries (calleesOf cs) arrays types pc rc a) in
-      let E : _≡_ {A = Copied} (c, t1) (spot i (writes o out W)) = e ∙ ap (λ z. ifHead first o out z) q in
-      let F : _≡_ {A = Emission} (x, t2)
-      (outcome j (0 + statementCount A) (k + TA) (rcAfterBlock types arrays pc rc a) (writes o out (W ++ blockWords A))) =
-      f ∙ ap (λ (z : Copied). emittedBody cs arrays types first rv pc arm rc (z .0 .o) 0 k (z .1) (readBlock (l - 1) params me image (z .0 .at))) E
-      ∙ body-got cs arrays types first rv pc arm rc o k out 0 (readBlock (l - 1) params me image i) a j W r in
-      let G = g ∙ ap (λ (z : Emission). emittedBody cs arrays types first rv pc arm rc (z .0 .o) 0 (z .0 .k) (z .1) (readBlock (l - 1) params me image (z .0 .at))) F
-      ∙ body-got cs arrays types first rv pc arm rc o (k + TA) out 0 (readBlock (l - 1) params me image j) b p (W ++ blockWords A) s in
-      ap (λ (z : Emission). outcome (z .0 .at) (n + 1) (z .0 .k) (x .rc || z .0 .rc) (z .0 .o, z .1)) G
-      ∙ ap (λ (z : Emission). outcome p (n + 1) (k + TA + length (blockTemporaries (calleesOf cs) arrays types pc rc b)) (z .0 .rc || rcAfterBlock types arrays pc rc b)
-      (writes o out ((W ++ blockWords A) ++ blockWords (compiledBlock (calleesOf cs) arrays types first rv b pc arm rc (k + TA))))) F
-      ∙ public-all cs arrays types first rv pc arm rc o n k out d a b p (label-of types arrays _ d i false q h)
-      ∙ ap (λ z. emitted cs arrays types first rv pc arm rc o n k out z) (sym u)
+-- the first block of an if and the body of a for, where their heads end
+module _ (s : Scope) (c : Cursor) (out : List ℕ) (l : ℕ) (params image : List ℕ) (t : ok (readStatement l params (s .me) image (c .at)) ≡ true)
+    (v : Spot) (t1 : List ℕ) where
+  pub secret-then : (a : Act) → opOf (getD image (c .at) 0) ≡ 2
+      → _≡_ {A = Copied} (v, t1) (conditioned (s .first) (c .k) a (c .o) out (readExpression (l - 1) image (c .at + 1)))
+      → BlockRead (l - 1) params (s .me) image (v .at)
+  secret-then a two e = read-then l params (s .me) image (c .at) t 2 (sym two) refl (v .at) (condition-end (s .first) (c .k) a (c .o) out _ v t1 e)
+
+  pub public-then : opOf (getD image (c .at) 0) ≡ 2
+      → _≡_ {A = Copied} (v, t1) (ifHead (s .first) (c .o) out (readExpression (l - 1) image (c .at + 1))) → BlockRead (l - 1) params (s .me) image (v .at)
+  public-then two e = read-then l params (s .me) image (c .at) t 2 (sym two) refl (v .at) (if-head-end (s .first) (c .o) out _ v t1 e)
+
+  pub body-read : (y : ℕ) → opOf (getD image (c .at) 0) ≡ 3
+      → _≡_ {A = Copied} (v, t1) (forHead (s .first) y (c .o) out (readExpression (l - 1) image (c .at + 1))
+      (readExpression (l - 1) image (endOf (readExpression (l - 1) image (c .at + 1))))) → BlockRead (l - 1) params (s .me) image (v .at)
+  body-read y three f =
+      let (d, m, e, j, z, p, q, r, u, w) = open-for l params (s .me) image (c .at) t three in
+      read-body l params (s .me) image (c .at) t 3 (sym three) refl (v .at) (for-head-end (s .first) y (c .o) out _ _ v t1 d m q f)
+
+module _ (ps : List Procedure) (arrays types : List ℕ) (s : Scope) (c : Cursor) (out : List ℕ) (l : ℕ) (params image : List ℕ)
+    (t : ok (readStatement l params (s .me) image (c .at)) ≡ true) (two : opOf (getD image (c .at) 0) ≡ 2) (v : Spot) (t1 : List ℕ) where
+  -- behind the condition
+  module _ (a : Act) (e : _≡_ {A = Copied} (v, t1) (conditioned (s .first) (c .k) a (c .o) out (readExpression (l - 1) image (c .at + 1)))) where
+    module _ (x : Cursor) (t2 : List ℕ)
+        (f : _≡_ {A = Emission} (x, t2) (emittedBlock ps arrays types (inArm s (c .k))
+        (record { at = v .at; o = v .o; n = c .n + 2; k = c .k + 2; rc = c .rc }) t1 (readBlock (l - 1) params (s .me) image (v .at)))) where
+      pub secret-else : BlockRead (l - 1) params (s .me) image (x .at)
+      secret-else =
+          read-else l params (s .me) image (c .at) t 2 (sym two) refl (v .at) (condition-end (s .first) (c .k) a (c .o) out _ v t1 e) (x .at)
+          (block-end ps arrays types (inArm s (c .k)) (record { at = v .at; o = v .o; n = c .n + 2; k = c .k + 2; rc = c .rc }) t1 _ x t2 f)
+
+      pub secret-if-on : (y : Cursor) (t3 : List ℕ) → a ≡ actAt s c → seen types arrays (readExpression (l - 1) image (c .at + 1)) .secret ≡ true
+          → _≡_ {A = Emission} (y, t3) (emittedBlock ps arrays types (inArm s (c .k + 1))
+          (record { at = x .at; o = x .o; n = x .n; k = x .k; rc = c .rc }) t2 (readBlock (l - 1) params (s .me) image (x .at)))
+          → _≡_ {A = Emission} (record { at = y .at; o = y .o; n = y .n; k = y .k; rc = x .rc || y .rc }, t3)
+          (emitted ps arrays types s c out (readStatement l params (s .me) image (c .at)))
+      unfolding conditioned
+      secret-if-on y t3 ha h g =
+          let (d, i, b, j, z, p, q, r, w, u) = open-if l params (s .me) image (c .at) t two in
+          let W = conditionWords (c .k) (actAt s c) (moved (s .first) d) in
+          let A = armCode ps arrays types s c b true (c .k) (c .k + 2) in
+          let TA = armSize ps arrays types s c true b in
+          let B = armCode ps arrays types s c z true (c .k + 1) (c .k + 2 + TA) in
+          let E : _≡_ {A = Copied} (v, t1) (spot i (writes (c .o) out W)) =
+          e ∙ ap (λ (y : Act). conditioned (s .first) (c .k) y (c .o) out (readExpression (l - 1) image (c .at + 1))) ha
+          ∙ ap (λ y. conditioned (s .first) (c .k) (actAt s c) (c .o) out y) q in
+          let F : _≡_ {A = Emission} (x, t2)
+          (outcome j (c .n + 2 + statementCount A) (c .k + 2 + TA) (rcAfterBlock types arrays true (c .rc) b) (writes (c .o) out (W ++ statementsWords A))) =
+          f ∙ ap (λ (y : Copied). emittedBlock ps arrays types (inArm s (c .k)) (record { at = y .0 .at; o = y .0 .o; n = c .n + 2; k = c .k + 2; rc = c .rc }) (y .1)
+          (readBlock (l - 1) params (s .me) image (y .0 .at))) E
+          ∙ block-got ps arrays types (inArm s (c .k)) (record { at = 0; o = 0; n = c .n + 2; k = c .k + 2; rc = c .rc }) i (c .o) out
+          (readBlock (l - 1) params (s .me) image i) b j W r in
+          let G = g ∙ ap (λ (y : Emission). emittedBlock ps arrays types (inArm s (c .k + 1))
+          (record { at = y .0 .at; o = y .0 .o; n = y .0 .n; k = y .0 .k; rc = c .rc }) (y .1) (readBlock (l - 1) params (s .me) image (y .0 .at))) F
+          ∙ block-got ps arrays types (inArm s (c .k + 1)) (record { at = 0; o = 0; n = c .n + 2 + statementCount A; k = c .k + 2 + TA; rc = c .rc }) j (c .o) out
+          (readBlock (l - 1) params (s .me) image j) z p (W ++ statementsWords A) w in
+          ap (λ (y : Emission). outcome (y .0 .at) (y .0 .n) (y .0 .k) (x .rc || y .0 .rc) (y .0 .o, y .1)) G
+          ∙ ap (λ (y : Emission). outcome p (c .n + 2 + statementCount A + statementCount B) (c .k + 2 + TA + armSize ps arrays types s c true z)
+          (y .0 .rc || rcAfterBlock types arrays true (c .rc) z) (writes (c .o) out ((W ++ statementsWords A) ++ statementsWords B))) F
+          ∙ secret-all ps arrays types s c out d b z p (label-of types arrays _ d i true q h)
+          ∙ ap (λ y. emitted ps arrays types s c out y) (sym u)
+
+  module _ (e : _≡_ {A = Copied} (v, t1) (ifHead (s .first) (c .o) out (readExpression (l - 1) image (c .at + 1)))) where
+    module _ (x : Cursor) (t2 : List ℕ)
+        (f : _≡_ {A = Emission} (x, t2) (emittedBody ps arrays types s
+        (record { at = v .at; o = v .o; n = 0; k = c .k; rc = c .rc }) t1 (readBlock (l - 1) params (s .me) image (v .at)))) where
+      pub public-else : BlockRead (l - 1) params (s .me) image (x .at)
+      public-else =
+          read-else l params (s .me) image (c .at) t 2 (sym two) refl (v .at) (if-head-end (s .first) (c .o) out _ v t1 e) (x .at)
+          (body-end ps arrays types s (record { at = v .at; o = v .o; n = 0; k = c .k; rc = c .rc }) t1 _ x t2 f)
+
+      pub public-if-on : (y : Cursor) (t3 : List ℕ) → seen types arrays (readExpression (l - 1) image (c .at + 1)) .secret ≡ false
+          → _≡_ {A = Emission} (y, t3) (emittedBody ps arrays types s
+          (record { at = x .at; o = x .o; n = 0; k = x .k; rc = c .rc }) t2 (readBlock (l - 1) params (s .me) image (x .at)))
+          → _≡_ {A = Emission} (record { at = y .at; o = y .o; n = c .n + 1; k = y .k; rc = x .rc || y .rc }, t3)
+          (emitted ps arrays types s c out (readStatement l params (s .me) image (c .at)))
+      unfolding ifHead
+      public-if-on y t3 h g =
+          let (d, i, b, j, z, p, q, r, w, u) = open-if l params (s .me) image (c .at) t two in
+          let W = statementWordWith 2 0 ∷ expressionWords (moved (s .first) d) in
+          let A = armCode ps arrays types s c b (s .pc) (s .arm) (c .k) in
+          let TA = armSize ps arrays types s c (s .pc) b in
+          let B = armCode ps arrays types s c z (s .pc) (s .arm) (c .k + TA) in
+          let E : _≡_ {A = Copied} (v, t1) (spot i (writes (c .o) out W)) = e ∙ ap (λ y. ifHead (s .first) (c .o) out y) q in
+          let F : _≡_ {A = Emission} (x, t2)
+          (outcome j (statementCount A) (c .k + TA) (rcAfterBlock types arrays (s .pc) (c .rc) b) (writes (c .o) out (W ++ blockWords A))) =
+          f ∙ ap (λ (y : Copied). emittedBody ps arrays types s (record { at = y .0 .at; o = y .0 .o; n = 0; k = c .k; rc = c .rc }) (y .1)
+          (readBlock (l - 1) params (s .me) image (y .0 .at))) E
+          ∙ body-got ps arrays types s (record { at = 0; o = 0; n = 0; k = c .k; rc = c .rc }) i (c .o) out (readBlock (l - 1) params (s .me) image i) b j W r in
+          let G = g ∙ ap (λ (y : Emission). emittedBody ps arrays types s
+          (record { at = y .0 .at; o = y .0 .o; n = 0; k = y .0 .k; rc = c .rc }) (y .1) (readBlock (l - 1) params (s .me) image (y .0 .at))) F
+          ∙ body-got ps arrays types s (record { at = 0; o = 0; n = 0; k = c .k + TA; rc = c .rc }) j (c .o) out
+          (readBlock (l - 1) params (s .me) image j) z p (W ++ blockWords A) w in
+          ap (λ (y : Emission). outcome (y .0 .at) (c .n + 1) (y .0 .k) (x .rc || y .0 .rc) (y .0 .o, y .1)) G
+          ∙ ap (λ (y : Emission). outcome p (c .n + 1) (c .k + TA + armSize ps arrays types s c (s .pc) z)
+          (y .0 .rc || rcAfterBlock types arrays (s .pc) (c .rc) z) (writes (c .o) out ((W ++ blockWords A) ++ blockWords B))) F
+          ∙ public-all ps arrays types s c out d b z p (label-of types arrays _ d i false q h)
+          ∙ ap (λ y. emitted ps arrays types s c out y) (sym u)
 
 -- ---- a for
 
-for-all : (cs arrays types : List ℕ) (first rv : ℕ) (pc : Bool) (arm : ℕ) (rc : Bool) (o n k : ℕ) (out : List ℕ) (x : ℕ) (d e : Expression) (b : Block) (m : ℕ)
-    → outcome m (n + 1) (k + length (blockTemporaries (calleesOf cs) arrays types pc (rcAfterBlock types arrays pc rc b) b)) (rcAfterBlock types arrays pc rc b)
-    (writes o out ((statementWordWith 3 (renamed first x) ∷ (expressionWords (moved first d) ++ expressionWords (moved first e)))
-    ++ blockWords (compiledBlock (calleesOf cs) arrays types first rv b pc arm (rcAfterBlock types arrays pc rc b) k)))
-    ≡ emitted cs arrays types first rv pc arm rc o n k out (got (loop x d e b) m)
+for-all : (ps : List Procedure) (arrays types : List ℕ) (s : Scope) (c : Cursor) (out : List ℕ) (x : ℕ) (d e : Expression) (b : Block) (m : ℕ)
+    → outcome m (c .n + 1) (c .k + length (blockTemporaries ps arrays types (s .pc) (rcAfterBlock types arrays (s .pc) (c .rc) b) b))
+    (rcAfterBlock types arrays (s .pc) (c .rc) b)
+    (writes (c .o) out ((statementWordWith 3 (renamed (s .first) x) ∷ (expressionWords (moved (s .first) d) ++ expressionWords (moved (s .first) e)))
+    ++ blockWords (compiledBlock ps arrays types (s .first) (s .rv) b (s .pc) (s .arm) (rcAfterBlock types arrays (s .pc) (c .rc) b) (c .k))))
+    ≡ emitted ps arrays types s c out (got (loop x d e b) m)
 unfolding emitted
-for-all cs arrays types first rv pc arm rc o n k out x d e b m =
+for-all ps arrays types s c out x d e b m =
     rw (
-      for-step (calleesOf cs) arrays types first rv pc arm rc k x d e b,
-      for-temporaries (calleesOf cs) arrays types first rv pc arm rc k x d e b,
-      for-rc (calleesOf cs) arrays types first rv pc arm rc k x d e b,
+      for-step ps arrays types s c x d e b,
+      for-temporaries ps arrays types s c x d e b,
+      for-rc ps arrays types s c x d e b,
     )
-    (outcome-eq m _ _ _ _ _ _ _ (ap (λ z. n + z) one-count) refl
-    (ap (λ ws. writes o out ws) (sym (for-words (renamed first x) (moved first d) (moved first e)
-    (compiledBlock (calleesOf cs) arrays types first rv b pc arm (rcAfterBlock types arrays pc rc b) k)))))
-  where
-    one-count : 1 ≡ statementCount (one (loop (renamed first x) (moved first d) (moved first e)
-        (compiledBlock (calleesOf cs) arrays types first rv b pc arm (rcAfterBlock types arrays pc rc b) k)))
-    one-count = single-count _
+    (outcome-eq m _ _ _ _ _ _ _ (ap (λ z. c .n + z) (sym (one-count _))) refl
+    (ap (λ ws. writes (c .o) out ws) (sym (for-words (renamed (s .first) x) (moved (s .first) d) (moved (s .first) e)
+    (compiledBlock ps arrays types (s .first) (s .rv) b (s .pc) (s .arm) (rcAfterBlock types arrays (s .pc) (c .rc) b) (c .k))))))
 
-module _ (cs arrays types : List ℕ) (first rv : ℕ) (pc : Bool) (arm : ℕ) (rc : Bool) (o n k : ℕ) (out : List ℕ)
-    (l : ℕ) (params : List ℕ) (me : ℕ) (image : List ℕ) (at : ℕ) (t : ok (readStatement l params me image at) ≡ true)
-    (three : opOf (getD image at 0) ≡ 3) where
-  pub for-on : (y : ℕ) (h : Spot) (t1 : List ℕ) (s : Passed) (b : Cursor) (t2 : List ℕ) → y ≡ renamed first (targetOf (getD image at 0))
-      → _≡_ {A = Copied} (h, t1) (forHead first y o out (readExpression (l - 1) image (at + 1)) (readExpression (l - 1) image (endOf (readExpression (l - 1) image (at + 1)))))
-      → s ≡ passedBlock types arrays pc rc (readBlock (l - 1) params me image (h .at))
-      → _≡_ {A = Emission} (b, t2) (emittedBody cs arrays types first rv pc arm (s .rc) (h .o) 0 k t1 (readBlock (l - 1) params me image (h .at)))
-      → _≡_ {A = Emission} (record { at = b .at; o = b .o; n = n + 1; k = b .k; rc = s .rc }, t2)
-      (emitted cs arrays types first rv pc arm rc o n k out (readStatement l params me image at))
+module _ (ps : List Procedure) (arrays types : List ℕ) (s : Scope) (c : Cursor) (out : List ℕ) (l : ℕ) (params image : List ℕ)
+    (t : ok (readStatement l params (s .me) image (c .at)) ≡ true) (three : opOf (getD image (c .at) 0) ≡ 3) (y : ℕ) (v : Spot) (t1 : List ℕ)
+    (f : _≡_ {A = Copied} (v, t1) (forHead (s .first) y (c .o) out (readExpression (l - 1) image (c .at + 1))
+    (readExpression (l - 1) image (endOf (readExpression (l - 1) image (c .at + 1)))))) where
+  pub for-on : (x : ℕ) (b : Passed) (d : Cursor) (t2 : List ℕ) → x ≡ targetOf (getD image (c .at) 0) → y ≡ renamed (s .first) x
+      → b ≡ passedBlock types arrays (s .pc) (c .rc) (readBlock (l - 1) params (s .me) image (v .at))
+      → _≡_ {A = Emission} (d, t2) (emittedBody ps arrays types s (record { at = v .at; o = v .o; n = 0; k = c .k; rc = b .rc }) t1
+      (readBlock (l - 1) params (s .me) image (v .at)))
+      → _≡_ {A = Emission} (record { at = d .at; o = d .o; n = c .n + 1; k = d .k; rc = b .rc }, t2)
+      (emitted ps arrays types s c out (readStatement l params (s .me) image (c .at)))
   unfolding forHead passedBlock
-  for-on y h t1 s b t2 e f g i =
-      let (d, m, c, j, z, p, q, r, u, v) = open-for l params me image at t three in
-      let X = renamed first (targetOf (getD image at 0)) in
-      let W = statementWordWith 3 X ∷ (expressionWords (moved first d) ++ expressionWords (moved first c)) in
-      let E : _≡_ {A = Copied} (h, t1) (spot j (writes o out W)) =
-      f ∙ ap (λ w. forHead first w o out (readExpression (l - 1) image (at + 1)) (readExpression (l - 1) image (endOf (readExpression (l - 1) image (at + 1))))) e
-      ∙ ap (λ w. forHead first X o out (readExpression (l - 1) image (at + 1)) w) (ap (λ w. readExpression (l - 1) image w) (end-of _ d m q) ∙ r)
-      ∙ ap (λ w. forHead first X o out w (got c j)) q in
-      let S : s .rc ≡ rcAfterBlock types arrays pc rc z =
-      ap (λ (w : Passed). w .rc) (g ∙ ap (λ (w : Copied). passedBlock types arrays pc rc (readBlock (l - 1) params me image (w .0 .at))) E
-      ∙ ap (λ w. passedBlock types arrays pc rc w) u) in
-      let G = i ∙ ap (λ w. emittedBody cs arrays types first rv pc arm w (h .o) 0 k t1 (readBlock (l - 1) params me image (h .at))) S
-      ∙ ap (λ (w : Copied). emittedBody cs arrays types first rv pc arm (rcAfterBlock types arrays pc rc z) (w .0 .o) 0 k (w .1) (readBlock (l - 1) params me image (w .0 .at))) E
-      ∙ body-got cs arrays types first rv pc arm (rcAfterBlock types arrays pc rc z) o k out 0 (readBlock (l - 1) params me image j) z p W u in
-      ap (λ (w : Emission). outcome (w .0 .at) (n + 1) (w .0 .k) (s .rc) (w .0 .o, w .1)) G
-      ∙ ap (λ w. outcome p (n + 1) (k + length (blockTemporaries (calleesOf cs) arrays types pc (rcAfterBlock types arrays pc rc z) z)) w
-      (writes o out (W ++ blockWords (compiledBlock (calleesOf cs) arrays types first rv z pc arm (rcAfterBlock types arrays pc rc z) k)))) S
-      ∙ for-all cs arrays types first rv pc arm rc o n k out (targetOf (getD image at 0)) d c z p
-      ∙ ap (λ w. emitted cs arrays types first rv pc arm rc o n k out w) (sym v)
-
--- ---- what the calls ask
-
-module _ (l : ℕ) (params : List ℕ) (me : ℕ) (image : List ℕ) (at : ℕ) (t : ok (readStatement l params me image at) ≡ true) (i : me ≤ length params) where
-  pub arm-fine : opOf (getD image at 0) ≡ 2 → (c : ℕ) → c ≡ endOf (readExpression (l - 1) image (at + 1)) → FineBlock (l - 1) params me image c
-  arm-fine two c e = fine-then l params me image at t two i c e
-
-  pub other-fine : opOf (getD image at 0) ≡ 2 → (c : ℕ) → c ≡ endOf (readExpression (l - 1) image (at + 1))
-      → (x : ℕ) → x ≡ endOf (readBlock (l - 1) params me image c) → FineBlock (l - 1) params me image x
-  other-fine two c e x f = fine-else l params me image at t two i c e x f
-
-  pub loop-fine : opOf (getD image at 0) ≡ 3 → (h : ℕ)
-      → h ≡ endOf (readExpression (l - 1) image (endOf (readExpression (l - 1) image (at + 1)))) → FineBlock (l - 1) params me image h
-  loop-fine three h e = fine-body l params me image at t three i h e
-
-pub label-is : (types arrays : List ℕ) (x : Parse Expression) (r : Seen) (s : Bool) → r ≡ seen types arrays x → r .secret ≡ s → seen types arrays x .secret ≡ s
-label-is types arrays x r s e h = sym (ap (λ (z : Seen). z .secret) e) ∙ h
+  for-on x b d t2 hx hy g i =
+      let (e, m, h, j, z, p, q, r, u, w) = open-for l params (s .me) image (c .at) t three in
+      let X = renamed (s .first) (targetOf (getD image (c .at) 0)) in
+      let HX : y ≡ X = hy ∙ ap (λ (a : ℕ). renamed (s .first) a) hx in
+      let W = statementWordWith 3 X ∷ (expressionWords (moved (s .first) e) ++ expressionWords (moved (s .first) h)) in
+      let RC = rcAfterBlock types arrays (s .pc) (c .rc) z in
+      let C : Cursor = record { at = 0; o = 0; n = 0; k = c .k; rc = RC } in
+      let E : _≡_ {A = Copied} (v, t1) (spot j (writes (c .o) out W)) =
+      f ∙ ap (λ a. forHead (s .first) a (c .o) out (readExpression (l - 1) image (c .at + 1)) (readExpression (l - 1) image (endOf (readExpression (l - 1) image (c .at + 1))))) HX
+      ∙ ap (λ a. forHead (s .first) X (c .o) out (readExpression (l - 1) image (c .at + 1)) a) (ap (λ a. readExpression (l - 1) image a) (end-of _ e m q) ∙ r)
+      ∙ ap (λ a. forHead (s .first) X (c .o) out a (got h j)) q in
+      let S : b .rc ≡ RC =
+      ap (λ (a : Passed). a .rc) (g ∙ ap (λ (a : Copied). passedBlock types arrays (s .pc) (c .rc) (readBlock (l - 1) params (s .me) image (a .0 .at))) E
+      ∙ ap (λ a. passedBlock types arrays (s .pc) (c .rc) a) u) in
+      let G = i ∙ ap (λ (a : Bool). emittedBody ps arrays types s (record { at = v .at; o = v .o; n = 0; k = c .k; rc = a }) t1 (readBlock (l - 1) params (s .me) image (v .at))) S
+      ∙ ap (λ (a : Copied). emittedBody ps arrays types s (record { at = a .0 .at; o = a .0 .o; n = 0; k = c .k; rc = RC }) (a .1)
+      (readBlock (l - 1) params (s .me) image (a .0 .at))) E
+      ∙ body-got ps arrays types s C j (c .o) out (readBlock (l - 1) params (s .me) image j) z p W u in
+      ap (λ (a : Emission). outcome (a .0 .at) (c .n + 1) (a .0 .k) (b .rc) (a .0 .o, a .1)) G
+      ∙ ap (λ a. outcome p (c .n + 1) (c .k + length (blockTemporaries ps arrays types (s .pc) RC z)) a
+      (writes (c .o) out (W ++ blockWords (blockCode ps arrays types s C z)))) S
+      ∙ for-all ps arrays types s c out (targetOf (getD image (c .at) 0)) e h z p
+      ∙ ap (λ a. emitted ps arrays types s c out a) (sym w)

@@ -1,5 +1,5 @@
 pub mod Outcomes
-pub mod Simple
 pub mod Shapes
+pub mod Simple
 pub mod Branches
 pub mod Blocks

@@ -1,31 +1,48 @@
 -- What emitting a statement or a block that was read leaves: the places after it, the statements and temporaries counted on, the rc after it,
--- and the words of its compiled tree on the tape. Assumes nothing.
+-- and the words of its compiled tree in the output. Assumes nothing.
 use Prim.Native.Nat.{ℕ, _+_, _*_, _≤_, _<_}
 use mathlib.Core.Bool.{Bool}
 use mathlib.Core.List.{List, _∷_, _++_}
 use lib.ListN.{length}
-use Rattle.definitions.specs.Image.{Expression, Statement, Block}
+use Rattle.definitions.specs.Image.{Expression, Statement, Block, Procedure}
 use Rattle.definitions.specs.Reading.{Parse, got, refused}
 use Rattle.definitions.specs.Labels.{rcAfter, rcAfterBlock}
 use Rattle.definitions.specs.Encoding.{statementWordWith, expressionWords, statementCount, statementsWords, blockWords}
 use Rattle.definitions.specs.Compiling.{moved, temporaries, blockTemporaries, compiledStatement, compiledBlock}
-use Rattle.tape.specs.Tape.{Tape, writes}
+use Rattle.tables.specs.Looking.{Listed}
+use Rattle.writer.specs.Writing.{Output, writes}
 use Rattle.copying.specs.Copy.{Copied, spot}
-use Rattle.emission.specs.Callees.{calleesOf}
+use Rattle.masking.specs.declared.Act.{Act}
+use Rattle.emission.specs.declared.Scope.{Scope}
 use Rattle.emission.specs.declared.Cursor.{Cursor}
 
+-- the answer, and the output afterwards
 abbrev pub Emission : Type 0
 Emission = Cursor × List ℕ
 
-abbrev pub outcome : ℕ → ℕ → ℕ → Bool → Tape → Emission
+abbrev pub outcome : ℕ → ℕ → ℕ → Bool → Output → Emission
 outcome at n k rc z = (record { at = at; o = z .0; n = n; k = k; rc = rc }, z .1)
 
--- what the numbers of a walk have to be below, so that none of them overflows: they grow by at most two for each word of the source
-abbrev pub Small : ℕ → ℕ → ℕ → ℕ → ℕ → ℕ → ℕ → ℕ → Type 0
-Small size callees me at n k arm rv = (size ≤ 4096) × (me ≤ callees) × (n ≤ 2 * at + 10) × (k ≤ 2 * at + 1000) × (arm ≤ 100000) × (rv ≤ 1000)
+-- the act under which a statement stands
+abbrev pub actAt : Scope → Cursor → Act
+actAt s c = record { pc = s .pc; arm = s .arm; rc = c .rc; live = s .rv + 1 }
 
-abbrev pub Grown : ℕ → ℕ → ℕ → ℕ → ℕ → ℕ → ℕ → Type 0
-Grown size at n k at2 n2 k2 = (at < at2) × (at2 ≤ size) × (n2 + 2 * at ≤ n + 2 * at2) × (k2 + 2 * at ≤ k + 2 * at2)
+-- The procedure is listed, and the numbers of a walk are small enough that none of them overflows: they grow by at most two for each word of
+-- the source.
+pub record Ready (image table : List ℕ) (s : Scope) (c : Cursor) : Type 0 where
+  pub listed : Listed image table (s .me)
+  pub short : length image ≤ 4096
+  pub few-statements : c .n ≤ 2 * c .at + 10
+  pub few-temporaries : c .k ≤ 2 * c .at + 1000
+  pub low-arm : s .arm ≤ 100000
+  pub low-rv : s .rv ≤ 1000
+
+-- how far a walk over an image of a size has come
+pub record Grown (size : ℕ) (c d : Cursor) : Type 0 where
+  pub onward : c .at < d .at
+  pub within : d .at ≤ size
+  pub statements : d .n + 2 * c .at ≤ c .n + 2 * d .at
+  pub taken : d .k + 2 * c .at ≤ c .k + 2 * d .at
 
 -- the word of a public if and its condition
 unfoldable pub ifHead : ℕ → ℕ → List ℕ → Parse Expression → Copied
@@ -38,26 +55,31 @@ forHead first y o out (got f n) (got t m) = spot m (writes o out (statementWordW
 forHead first y o out (got f n) (refused m p) = spot 0 (o, out)
 forHead first y o out (refused n p) x = spot 0 (o, out)
 
-module _ (cs arrays types : List ℕ) (first rv : ℕ) (pc : Bool) (arm : ℕ) (rc : Bool) (o n k : ℕ) (out : List ℕ) where
-  unfoldable pub emitted : Parse Statement → Emission
-  emitted (got s m) =
-      outcome m (n + statementCount (compiledStatement (calleesOf cs) arrays types first rv s pc arm rc k))
-      (k + length (temporaries (calleesOf cs) arrays types pc rc s)) (rcAfter types arrays pc rc s)
-      (writes o out (statementsWords (compiledStatement (calleesOf cs) arrays types first rv s pc arm rc k)))
-  emitted (refused m p) = outcome 0 n k rc (o, out)
+module _ (ps : List Procedure) (arrays types : List ℕ) (s : Scope) (c : Cursor) where
+  -- what a statement and a block become where the walk is
+  abbrev pub statementCode : Statement → Block
+  statementCode x = compiledStatement ps arrays types (s .first) (s .rv) x (s .pc) (s .arm) (c .rc) (c .k)
+
+  abbrev pub blockCode : Block → Block
+  blockCode b = compiledBlock ps arrays types (s .first) (s .rv) b (s .pc) (s .arm) (c .rc) (c .k)
+
+  -- after a block that becomes a number of statements, with the output afterwards
+  abbrev pub afterBlock : Block → ℕ → ℕ → Output → Emission
+  afterBlock b at n z =
+      outcome at n (c .k + length (blockTemporaries ps arrays types (s .pc) (c .rc) b)) (rcAfterBlock types arrays (s .pc) (c .rc) b) z
+
+  unfoldable pub emitted : List ℕ → Parse Statement → Emission
+  emitted out (got x m) =
+      outcome m (c .n + statementCount (statementCode x)) (c .k + length (temporaries ps arrays types (s .pc) (c .rc) x))
+      (rcAfter types arrays (s .pc) (c .rc) x) (writes (c .o) out (statementsWords (statementCode x)))
+  emitted out (refused m p) = outcome 0 (c .n) (c .k) (c .rc) (c .o, out)
 
   -- the statements of a block, in line with those before them
-  unfoldable pub emittedBlock : Parse Block → Emission
-  emittedBlock (got b m) =
-      outcome m (n + statementCount (compiledBlock (calleesOf cs) arrays types first rv b pc arm rc k))
-      (k + length (blockTemporaries (calleesOf cs) arrays types pc rc b)) (rcAfterBlock types arrays pc rc b)
-      (writes o out (statementsWords (compiledBlock (calleesOf cs) arrays types first rv b pc arm rc k)))
-  emittedBlock (refused m p) = outcome 0 n k rc (o, out)
+  unfoldable pub emittedBlock : List ℕ → Parse Block → Emission
+  emittedBlock out (got b m) = afterBlock b m (c .n + statementCount (blockCode b)) (writes (c .o) out (statementsWords (blockCode b)))
+  emittedBlock out (refused m p) = outcome 0 (c .n) (c .k) (c .rc) (c .o, out)
 
   -- a block behind a word with its own count
-  unfoldable pub emittedBody : Parse Block → Emission
-  emittedBody (got b m) =
-      outcome m (n + statementCount (compiledBlock (calleesOf cs) arrays types first rv b pc arm rc k))
-      (k + length (blockTemporaries (calleesOf cs) arrays types pc rc b)) (rcAfterBlock types arrays pc rc b)
-      (writes o out (blockWords (compiledBlock (calleesOf cs) arrays types first rv b pc arm rc k)))
-  emittedBody (refused m p) = outcome 0 n k rc (o, out)
+  unfoldable pub emittedBody : List ℕ → Parse Block → Emission
+  emittedBody out (got b m) = afterBlock b m (statementCount (blockCode b)) (writes (c .o) out (blockWords (blockCode b)))
+  emittedBody out (refused m p) = outcome 0 (c .n) (c .k) (c .rc) (c .o, out)

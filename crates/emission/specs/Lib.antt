@@ -1,2 +1,2 @@
-pub mod Callees
 pub mod Emitted
+pub mod Following

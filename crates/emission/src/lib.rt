@@ -1,22 +1,58 @@
 // The compiled words of statements and blocks, written from the words of the source.
-// In all functions: `types` and `arrays` are the type words of the procedure's variables and the array words, `params` and `callees` tell of
-// each procedure the number of its parameters and mode × 2 + sort of its result; `at` is the place in the source and `o` in the output, `n` the
-// number of statements of the block so far, `k` the next temporary; `pc` and `rc` tell whether they are secret, `arm` is the variable of
-// the innermost secret arm or the guard, `first` the first variable that moves, `rv` is RV, `me` the number of the procedure.
+use contexts::Context;
+use contexts::rc_block;
+use contexts::secret_expression;
+use copying::Spot;
+use copying::copy_expression;
+use copying::copy_two;
+use copying::renumber;
+use image_words::called;
+use image_words::made::IF_WORD;
+use image_words::made::block_with;
+use image_words::made::statement_with;
+use image_words::ops;
+use image_words::payload;
+use image_words::result;
+use image_words::target;
+use masking::Act;
+use masking::Call;
+use masking::emit_assign;
+use masking::emit_call;
+use masking::emit_condition;
+use masking::emit_return;
+use masking::emit_store;
+use tables::SIZE;
+use tables::parameters;
+use tables::signatures::is_guarded;
+use writer::patch;
+use writer::put;
 ghost use mathlib.Core.Path.{_≡_};
 ghost use mathlib.Core.Bool.{true, false};
-ghost use Prim.Native.Nat.{_+_, _*_, _-_, _≤_, _<_};
+ghost use mathlib.Core.List.{List};
+ghost use Prim.Native.Nat.{ℕ, _+_, _-_, _≤_, _<_};
 ghost use lib.ListN.{length, getD};
 ghost use Rattle.definitions.specs.Choice.{pick};
 ghost use Rattle.definitions.specs.Image.{opOf};
 ghost use Rattle.definitions.specs.Reading.{readExpression, readStatement, readBlock};
-ghost use Rattle.laws.specs.Parses.{ok, endOf};
-ghost use Rattle.contexts.specs.Fine.{FineExpression, FineTwo, FineStatement, FineBlock, statementsLeft};
+ghost use Rattle.laws.specs.Parses.{endOf};
+ghost use Rattle.laws.specs.ImageIn.{proceduresIn};
+ghost use Rattle.image_words.specs.Read.{ExpressionRead, PairRead, StatementRead, BlockRead};
+ghost use Rattle.tables.specs.Table.{arraysIn, paramsIn};
 ghost use Rattle.contexts.specs.Context.{seen};
-ghost use Rattle.emission.specs.Emitted.{emitted, emittedBlock, emittedBody, Small, Grown, ifHead, forHead};
-use copying::Spot;
+ghost use Rattle.masking.specs.Forms.{Bounded};
+ghost use Rattle.emission.specs.Emitted.{actAt, Ready, Grown, emitted, emittedBlock, emittedBody, ifHead, forHead};
 
-// Where a walk stands: the places in the source and in the output, the statements so far, the next temporary, rc.
+// Where a walk is: the number of the procedure, whether pc is secret, the variable of the innermost secret arm or the guard, the first
+// variable that moves, and RV, which LIVE follows.
+pub struct Scope {
+    pub me: u32,
+    pub pc: bool,
+    pub arm: u32,
+    pub first: u32,
+    pub rv: u32,
+}
+
+// How far a walk has come: the places in the source and in the output, the statements of the block so far, the next temporary, rc.
 pub struct Cursor {
     pub at: usize,
     pub o: usize,
@@ -25,8 +61,21 @@ pub struct Cursor {
     pub rc: bool,
 }
 
+// The act under which a statement stands.
+fn act_at(scope: Scope, cursor: Cursor) -> Act
+    requires { ⌜ (scope .arm ≤ 100000) × (scope .rv ≤ 1000) ⌝ }
+    ensures { λ r. ⌜ (r ≡ actAt scope cursor) × Bounded r ⌝ }
+{
+    Act {
+        pc: scope.pc,
+        arm: scope.arm,
+        rc: cursor.rc,
+        live: scope.rv + 1,
+    }
+}
+
 // The number of statements that a return or a call becomes.
-pub fn statements_of(secret: bool) -> u32
+fn statements_of(secret: bool) -> u32
     ensures { λ r. ⌜ (r ≡ pick secret 2 1) × (r ≤ 2) ⌝ }
 {
     if secret {
@@ -36,7 +85,7 @@ pub fn statements_of(secret: bool) -> u32
 }
 
 // The number of temporaries that a call takes.
-pub fn temporaries_of(secret: bool) -> u32
+fn temporaries_of(secret: bool) -> u32
     ensures { λ r. ⌜ (r ≡ pick secret 1 0) × (r ≤ 1) ⌝ }
 {
     if secret {
@@ -45,184 +94,115 @@ pub fn temporaries_of(secret: bool) -> u32
     0
 }
 
-// A statement that holds no block: assign, store, return or call.
-pub fn emit_simple(
+// A statement that holds no block: assign, store, return or call. The types of the procedure's variables are not asked for.
+fn emit_simple(
     image: &[u32],
-    types: &[u32],
-    arrays: &[u32],
-    params: &[u32],
-    callees: &[u32],
+    table: &[u32; SIZE],
     out: &mut [u32],
-    at: usize,
-    o: usize,
-    n: u32,
-    k: u32,
-    pc: bool,
-    arm: u32,
-    rc: bool,
-    first: u32,
-    rv: u32,
-    me: u32,
+    scope: Scope,
+    cursor: Cursor,
     level: u32,
 ) -> Cursor
-    requires { ⌜ FineStatement level (now params) me (now image) at × (opOf (getD (now image) at 0) ≡ 2 → ⊥) × (opOf (getD (now image) at 0) ≡ 3 → ⊥) × Small (length (now image)) (length (now callees)) me at n k arm rv ⌝ }
-    ensures { λ r. ⌜ ((r, now (out .exit)) ≡ emitted (now (callees .entry)) (now (arrays .entry)) (now (types .entry)) first rv pc arm rc o n k (now (out .entry)) (readStatement level (now (params .entry)) me (now (image .entry)) at)) × Grown (length (now (image .entry))) at n k (r .at) (r .n) (r .k) ⌝ }
+    requires { ⌜ StatementRead level (paramsIn (now table)) (scope .me) (now image) (cursor .at) × Ready (now image) (now table) scope cursor
+        × (opOf (getD (now image) (cursor .at) 0) ≡ 2 → ⊥) × (opOf (getD (now image) (cursor .at) 0) ≡ 3 → ⊥) ⌝ }
+    ensures { λ r. ⌜ ((types : List ℕ) → (r, now (out .exit)) ≡ emitted (proceduresIn (now (image .entry))) (arraysIn (now (table .entry))) types scope cursor
+        (now (out .entry)) (readStatement level (paramsIn (now (table .entry))) (scope .me) (now (image .entry)) (cursor .at)))
+        × Grown (length (now (image .entry))) cursor r ⌝ }
 {
+    let at = cursor.at;
+    let o = cursor.o;
+    let first = scope.first;
     let w = image[at];
-    let op = w % 268435456 / 65536;
-    let x = w % 65536;
-    if op == 0 {
-        let y = copying::renumber(first, x);
-        let v = masking::emit_assign(
-            image,
-            out,
-            at + 1,
-            o,
-            y,
-            pc,
-            arm,
-            rc,
-            first,
-            rv + 1,
-            level - 1,
-        );
+    let op = image_words::op(w);
+    let act = act_at(scope, cursor);
+    if op == ops::ASSIGN {
+        let y = renumber(first, target(w));
+        let v = emit_assign(image, out, at + 1, o, y, act, first, level - 1);
         return Cursor {
             at: v.at,
             o: v.o,
-            n: n + 1,
-            k: k,
-            rc: rc,
+            n: cursor.n + 1,
+            k: cursor.k,
+            rc: cursor.rc,
         };
     }
-    if op == 1 {
-        let v = masking::emit_store(
-            image,
-            out,
-            at + 1,
-            o,
-            x,
-            pc,
-            arm,
-            rc,
-            first,
-            rv + 1,
-            level - 1,
-        );
+    if op == ops::STORE {
+        let v = emit_store(image, out, at + 1, o, target(w), act, first, level - 1);
         return Cursor {
             at: v.at,
             o: v.o,
-            n: n + 1,
-            k: k,
-            rc: rc,
+            n: cursor.n + 1,
+            k: cursor.k,
+            rc: cursor.rc,
         };
     }
-    if op == 4 {
-        let d = statements_of(pc | rc);
-        let v = masking::emit_return(image, out, at + 1, o, pc, arm, rc, first, rv, level - 1);
+    if op == ops::RETURN {
+        let secret = scope.pc | cursor.rc;
+        let d = statements_of(secret);
+        let v = emit_return(image, out, at + 1, o, scope.rv, act, first, level - 1);
         return Cursor {
             at: v.at,
             o: v.o,
-            n: n + d,
-            k: k,
-            rc: pc | rc,
+            n: cursor.n + d,
+            k: cursor.k,
+            rc: secret,
         };
     }
-    emit_call_statement(
-        image,
-        types,
-        arrays,
-        params,
-        callees,
-        out,
-        at,
-        o,
-        n,
-        k,
-        pc,
-        arm,
-        rc,
-        first,
-        rv,
-        me,
-        level,
-    )
+    emit_call_statement(image, table, out, scope, cursor, level)
 }
 
 // A call.
-pub fn emit_call_statement(
+fn emit_call_statement(
     image: &[u32],
-    types: &[u32],
-    arrays: &[u32],
-    params: &[u32],
-    callees: &[u32],
+    table: &[u32; SIZE],
     out: &mut [u32],
-    at: usize,
-    o: usize,
-    n: u32,
-    k: u32,
-    pc: bool,
-    arm: u32,
-    rc: bool,
-    first: u32,
-    rv: u32,
-    me: u32,
+    scope: Scope,
+    cursor: Cursor,
     level: u32,
 ) -> Cursor
-    requires { ⌜ FineStatement level (now params) me (now image) at × (opOf (getD (now image) at 0) ≡ 5) × Small (length (now image)) (length (now callees)) me at n k arm rv ⌝ }
-    ensures { λ r. ⌜ ((r, now (out .exit)) ≡ emitted (now (callees .entry)) (now (arrays .entry)) (now (types .entry)) first rv pc arm rc o n k (now (out .entry)) (readStatement level (now (params .entry)) me (now (image .entry)) at)) × Grown (length (now (image .entry))) at n k (r .at) (r .n) (r .k) ⌝ }
+    requires { ⌜ StatementRead level (paramsIn (now table)) (scope .me) (now image) (cursor .at) × Ready (now image) (now table) scope cursor
+        × (opOf (getD (now image) (cursor .at) 0) ≡ 5) ⌝ }
+    ensures { λ r. ⌜ ((types : List ℕ) → (r, now (out .exit)) ≡ emitted (proceduresIn (now (image .entry))) (arraysIn (now (table .entry))) types scope cursor
+        (now (out .entry)) (readStatement level (paramsIn (now (table .entry))) (scope .me) (now (image .entry)) (cursor .at)))
+        × Grown (length (now (image .entry))) cursor r ⌝ }
 {
+    let at = cursor.at;
+    let first = scope.first;
     let w = image[at];
-    let f = w % 65536 / 256;
-    let i = f as usize;
-    let count = params[i];
-    let guarded = callees[i] / 2 == 1;
-    let y = copying::renumber(first, w % 256);
-    let v = masking::emit_call(
-        image,
-        out,
-        count,
-        at + 1,
-        o,
-        f,
-        y,
-        k,
-        guarded,
-        pc,
-        arm,
-        rc,
-        first,
-        rv + 1,
-        level - 1,
-    );
-    let d = statements_of(pc | rc);
-    let e = temporaries_of(pc | rc);
+    let f = called(w);
+    let call = Call {
+        called: f,
+        guarded: is_guarded(image, table, f),
+        count: parameters(table, f),
+        result: renumber(first, result(w)),
+        temporary: cursor.k,
+    };
+    let act = act_at(scope, cursor);
+    let v = emit_call(image, out, at + 1, cursor.o, call, act, first, level - 1);
+    let secret = scope.pc | cursor.rc;
+    let d = statements_of(secret);
+    let e = temporaries_of(secret);
     Cursor {
         at: v.at,
         o: v.o,
-        n: n + d,
-        k: k + e,
-        rc: rc,
+        n: cursor.n + d,
+        k: cursor.k + e,
+        rc: cursor.rc,
     }
 }
 
 // The word of a public if and its condition.
-pub fn emit_if_head(
-    image: &[u32],
-    out: &mut [u32],
-    at: usize,
-    o: usize,
-    first: u32,
-    level: u32,
-) -> Spot
-    requires { ⌜ FineExpression level (now image) at ⌝ }
-    ensures { λ r. ⌜ ((r, now (out .exit)) ≡ ifHead first o (now (out .entry)) (readExpression level (now (image .entry)) at)) × (at < r .at) × (r .at ≤ length (now (image .entry))) ⌝ }
+fn emit_if_head(image: &[u32], out: &mut [u32], at: usize, o: usize, first: u32, level: u32) -> Spot
+    requires { ⌜ ExpressionRead level (now image) at ⌝ }
+    ensures { λ r. ⌜ ((r, now (out .exit)) ≡ ifHead first o (now (out .entry)) (readExpression level (now (image .entry)) at))
+        × (at < r .at) × (r .at ≤ length (now (image .entry))) ⌝ }
 {
-    let p = tape::put(out, o, 1610743808);
-    copying::copy_expression(image, out, at, p, first, level)
+    let p = put(out, o, IF_WORD);
+    copy_expression(image, out, at, p, first, level)
 }
 
 // The word of a for over variable y and its bounds.
-pub fn emit_for_head(
+fn emit_for_head(
     image: &[u32],
     out: &mut [u32],
     at: usize,
@@ -231,246 +211,123 @@ pub fn emit_for_head(
     first: u32,
     level: u32,
 ) -> Spot
-    requires { ⌜ (y ≤ 1000000) × FineTwo level (now image) at ⌝ }
-    ensures { λ r. ⌜ ((r, now (out .exit)) ≡ forHead first y o (now (out .entry)) (readExpression level (now (image .entry)) at) (readExpression level (now (image .entry)) (endOf (readExpression level (now (image .entry)) at)))) × (at < r .at) × (r .at ≤ length (now (image .entry))) ⌝ }
+    requires { ⌜ (y ≤ 1000000) × PairRead level (now image) at ⌝ }
+    ensures { λ r. ⌜ ((r, now (out .exit)) ≡ forHead first y o (now (out .entry)) (readExpression level (now (image .entry)) at)
+        (readExpression level (now (image .entry)) (endOf (readExpression level (now (image .entry)) at))))
+        × (at < r .at) × (r .at ≤ length (now (image .entry))) ⌝ }
 {
-    let p = tape::put(out, o, 1610809344 + y);
-    copying::copy_two(image, out, at, p, first, level)
+    let p = put(out, o, statement_with(ops::FOR, y));
+    copy_two(image, out, at, p, first, level)
 }
 
 // A statement.
-pub fn emit_statement(
+fn emit_statement(
     image: &[u32],
+    table: &[u32; SIZE],
     types: &[u32],
-    arrays: &[u32],
-    params: &[u32],
-    callees: &[u32],
     out: &mut [u32],
-    at: usize,
-    o: usize,
-    n: u32,
-    k: u32,
-    pc: bool,
-    arm: u32,
-    rc: bool,
-    first: u32,
-    rv: u32,
-    me: u32,
+    scope: Scope,
+    cursor: Cursor,
     level: u32,
 ) -> Cursor
-    requires { ⌜ FineStatement level (now params) me (now image) at × Small (length (now image)) (length (now callees)) me at n k arm rv ⌝ }
-    ensures { λ r. ⌜ ((r, now (out .exit)) ≡ emitted (now (callees .entry)) (now (arrays .entry)) (now (types .entry)) first rv pc arm rc o n k (now (out .entry)) (readStatement level (now (params .entry)) me (now (image .entry)) at)) × Grown (length (now (image .entry))) at n k (r .at) (r .n) (r .k) ⌝ }
+    requires { ⌜ StatementRead level (paramsIn (now table)) (scope .me) (now image) (cursor .at) × Ready (now image) (now table) scope cursor ⌝ }
+    ensures { λ r. ⌜ ((r, now (out .exit)) ≡ emitted (proceduresIn (now (image .entry))) (arraysIn (now (table .entry))) (now (types .entry)) scope cursor
+        (now (out .entry)) (readStatement level (paramsIn (now (table .entry))) (scope .me) (now (image .entry)) (cursor .at)))
+        × Grown (length (now (image .entry))) cursor r ⌝ }
 {
-    let op = image[at] % 268435456 / 65536;
-    if op == 2 {
-        return emit_if(
-            image,
-            types,
-            arrays,
-            params,
-            callees,
-            out,
-            at,
-            o,
-            n,
-            k,
-            pc,
-            arm,
-            rc,
-            first,
-            rv,
-            me,
-            level,
-        );
+    let at = cursor.at;
+    let op = image_words::op(image[at]);
+    if op == ops::IF {
+        return emit_if(image, table, types, out, scope, cursor, level);
     }
-    if op == 3 {
-        return emit_for(
-            image,
-            types,
-            arrays,
-            params,
-            callees,
-            out,
-            at,
-            o,
-            n,
-            k,
-            pc,
-            arm,
-            rc,
-            first,
-            rv,
-            me,
-            level,
-        );
+    if op == ops::FOR {
+        return emit_for(image, table, types, out, scope, cursor, level);
     }
-    emit_simple(
-        image,
-        types,
-        arrays,
-        params,
-        callees,
-        out,
-        at,
-        o,
-        n,
-        k,
-        pc,
-        arm,
-        rc,
-        first,
-        rv,
-        me,
-        level,
-    )
+    emit_simple(image, table, out, scope, cursor, level)
 }
 
 // An if, by the label of its condition.
-pub fn emit_if(
+fn emit_if(
     image: &[u32],
+    table: &[u32; SIZE],
     types: &[u32],
-    arrays: &[u32],
-    params: &[u32],
-    callees: &[u32],
     out: &mut [u32],
-    at: usize,
-    o: usize,
-    n: u32,
-    k: u32,
-    pc: bool,
-    arm: u32,
-    rc: bool,
-    first: u32,
-    rv: u32,
-    me: u32,
+    scope: Scope,
+    cursor: Cursor,
     level: u32,
 ) -> Cursor
-    requires { ⌜ FineStatement level (now params) me (now image) at × (opOf (getD (now image) at 0) ≡ 2) × Small (length (now image)) (length (now callees)) me at n k arm rv ⌝ }
-    ensures { λ r. ⌜ ((r, now (out .exit)) ≡ emitted (now (callees .entry)) (now (arrays .entry)) (now (types .entry)) first rv pc arm rc o n k (now (out .entry)) (readStatement level (now (params .entry)) me (now (image .entry)) at)) × Grown (length (now (image .entry))) at n k (r .at) (r .n) (r .k) ⌝ }
+    requires { ⌜ StatementRead level (paramsIn (now table)) (scope .me) (now image) (cursor .at) × Ready (now image) (now table) scope cursor
+        × (opOf (getD (now image) (cursor .at) 0) ≡ 2) ⌝ }
+    ensures { λ r. ⌜ ((r, now (out .exit)) ≡ emitted (proceduresIn (now (image .entry))) (arraysIn (now (table .entry))) (now (types .entry)) scope cursor
+        (now (out .entry)) (readStatement level (paramsIn (now (table .entry))) (scope .me) (now (image .entry)) (cursor .at)))
+        × Grown (length (now (image .entry))) cursor r ⌝ }
 {
-    let c = contexts::secret_expression(image, types, arrays, at + 1, level - 1);
+    let c = secret_expression(image, table, types, cursor.at + 1, level - 1);
     if c.secret {
-        return emit_secret_if(
-            image,
-            types,
-            arrays,
-            params,
-            callees,
-            out,
-            at,
-            o,
-            n,
-            k,
-            pc,
-            arm,
-            rc,
-            first,
-            rv,
-            me,
-            level,
-        );
+        return emit_secret_if(image, table, types, out, scope, cursor, level);
     }
-    emit_public_if(
-        image,
-        types,
-        arrays,
-        params,
-        callees,
-        out,
-        at,
-        o,
-        n,
-        k,
-        pc,
-        arm,
-        rc,
-        first,
-        rv,
-        me,
-        level,
-    )
+    emit_public_if(image, table, types, out, scope, cursor, level)
 }
 
 // A secret if: T and E are variables k and k + 1, and the arms follow in line.
-pub fn emit_secret_if(
+fn emit_secret_if(
     image: &[u32],
+    table: &[u32; SIZE],
     types: &[u32],
-    arrays: &[u32],
-    params: &[u32],
-    callees: &[u32],
     out: &mut [u32],
-    at: usize,
-    o: usize,
-    n: u32,
-    k: u32,
-    pc: bool,
-    arm: u32,
-    rc: bool,
-    first: u32,
-    rv: u32,
-    me: u32,
+    scope: Scope,
+    cursor: Cursor,
     level: u32,
 ) -> Cursor
-    requires { ⌜ FineStatement level (now params) me (now image) at × (opOf (getD (now image) at 0) ≡ 2) × (seen (now types) (now arrays) (readExpression (level - 1) (now image) (at + 1)) .secret ≡ true) × Small (length (now image)) (length (now callees)) me at n k arm rv ⌝ }
-    ensures { λ r. ⌜ ((r, now (out .exit)) ≡ emitted (now (callees .entry)) (now (arrays .entry)) (now (types .entry)) first rv pc arm rc o n k (now (out .entry)) (readStatement level (now (params .entry)) me (now (image .entry)) at)) × Grown (length (now (image .entry))) at n k (r .at) (r .n) (r .k) ⌝ }
+    requires { ⌜ StatementRead level (paramsIn (now table)) (scope .me) (now image) (cursor .at) × Ready (now image) (now table) scope cursor
+        × (opOf (getD (now image) (cursor .at) 0) ≡ 2)
+        × (seen (now types) (arraysIn (now table)) (readExpression (level - 1) (now image) (cursor .at + 1)) .secret ≡ true) ⌝ }
+    ensures { λ r. ⌜ ((r, now (out .exit)) ≡ emitted (proceduresIn (now (image .entry))) (arraysIn (now (table .entry))) (now (types .entry)) scope cursor
+        (now (out .entry)) (readStatement level (paramsIn (now (table .entry))) (scope .me) (now (image .entry)) (cursor .at)))
+        × Grown (length (now (image .entry))) cursor r ⌝ }
 {
-    let c = masking::emit_condition(
+    let k = cursor.k;
+    let act = act_at(scope, cursor);
+    let c = emit_condition(
         image,
         out,
-        at + 1,
-        o,
+        cursor.at + 1,
+        cursor.o,
         k,
-        pc,
-        arm,
-        rc,
-        first,
-        rv + 1,
+        act,
+        scope.first,
         level - 1,
     );
-    let a = c.at;
-    let p = c.o;
-    let x = emit_block(
-        image,
-        types,
-        arrays,
-        params,
-        callees,
-        out,
-        a,
-        p,
-        n + 2,
-        k + 2,
-        true,
-        k,
-        rc,
-        first,
-        rv,
-        me,
-        level - 1,
-    );
-    let b = x.at;
-    let q = x.o;
-    let m = x.n;
-    let h = x.k;
-    let y = emit_block(
-        image,
-        types,
-        arrays,
-        params,
-        callees,
-        out,
-        b,
-        q,
-        m,
-        h,
-        true,
-        k + 1,
-        rc,
-        first,
-        rv,
-        me,
-        level - 1,
-    );
+    let first_arm = Scope {
+        me: scope.me,
+        pc: true,
+        arm: k,
+        first: scope.first,
+        rv: scope.rv,
+    };
+    let behind = Cursor {
+        at: c.at,
+        o: c.o,
+        n: cursor.n + 2,
+        k: k + 2,
+        rc: cursor.rc,
+    };
+    let x = emit_block(image, table, types, out, first_arm, behind, level - 1);
+    let second_arm = Scope {
+        me: scope.me,
+        pc: true,
+        arm: k + 1,
+        first: scope.first,
+        rv: scope.rv,
+    };
+    let between = Cursor {
+        at: x.at,
+        o: x.o,
+        n: x.n,
+        k: x.k,
+        rc: cursor.rc,
+    };
+    let y = emit_block(image, table, types, out, second_arm, between, level - 1);
     Cursor {
         at: y.at,
         o: y.o,
@@ -481,240 +338,146 @@ pub fn emit_secret_if(
 }
 
 // A public if keeps its form.
-pub fn emit_public_if(
+fn emit_public_if(
     image: &[u32],
+    table: &[u32; SIZE],
     types: &[u32],
-    arrays: &[u32],
-    params: &[u32],
-    callees: &[u32],
     out: &mut [u32],
-    at: usize,
-    o: usize,
-    n: u32,
-    k: u32,
-    pc: bool,
-    arm: u32,
-    rc: bool,
-    first: u32,
-    rv: u32,
-    me: u32,
+    scope: Scope,
+    cursor: Cursor,
     level: u32,
 ) -> Cursor
-    requires { ⌜ FineStatement level (now params) me (now image) at × (opOf (getD (now image) at 0) ≡ 2) × (seen (now types) (now arrays) (readExpression (level - 1) (now image) (at + 1)) .secret ≡ false) × Small (length (now image)) (length (now callees)) me at n k arm rv ⌝ }
-    ensures { λ r. ⌜ ((r, now (out .exit)) ≡ emitted (now (callees .entry)) (now (arrays .entry)) (now (types .entry)) first rv pc arm rc o n k (now (out .entry)) (readStatement level (now (params .entry)) me (now (image .entry)) at)) × Grown (length (now (image .entry))) at n k (r .at) (r .n) (r .k) ⌝ }
+    requires { ⌜ StatementRead level (paramsIn (now table)) (scope .me) (now image) (cursor .at) × Ready (now image) (now table) scope cursor
+        × (opOf (getD (now image) (cursor .at) 0) ≡ 2)
+        × (seen (now types) (arraysIn (now table)) (readExpression (level - 1) (now image) (cursor .at + 1)) .secret ≡ false) ⌝ }
+    ensures { λ r. ⌜ ((r, now (out .exit)) ≡ emitted (proceduresIn (now (image .entry))) (arraysIn (now (table .entry))) (now (types .entry)) scope cursor
+        (now (out .entry)) (readStatement level (paramsIn (now (table .entry))) (scope .me) (now (image .entry)) (cursor .at)))
+        × Grown (length (now (image .entry))) cursor r ⌝ }
 {
-    let c = emit_if_head(image, out, at + 1, o, first, level - 1);
-    let a = c.at;
-    let p = c.o;
-    let x = emit_body(
-        image,
-        types,
-        arrays,
-        params,
-        callees,
-        out,
-        a,
-        p,
-        k,
-        pc,
-        arm,
-        rc,
-        first,
-        rv,
-        me,
-        level - 1,
-    );
-    let b = x.at;
-    let q = x.o;
-    let h = x.k;
-    let y = emit_body(
-        image,
-        types,
-        arrays,
-        params,
-        callees,
-        out,
-        b,
-        q,
-        h,
-        pc,
-        arm,
-        rc,
-        first,
-        rv,
-        me,
-        level - 1,
-    );
+    let c = emit_if_head(image, out, cursor.at + 1, cursor.o, scope.first, level - 1);
+    let behind = Cursor {
+        at: c.at,
+        o: c.o,
+        n: 0,
+        k: cursor.k,
+        rc: cursor.rc,
+    };
+    let x = emit_body(image, table, types, out, scope, behind, level - 1);
+    let between = Cursor {
+        at: x.at,
+        o: x.o,
+        n: 0,
+        k: x.k,
+        rc: cursor.rc,
+    };
+    let y = emit_body(image, table, types, out, scope, between, level - 1);
     Cursor {
         at: y.at,
         o: y.o,
-        n: n + 1,
+        n: cursor.n + 1,
         k: y.k,
         rc: x.rc | y.rc,
     }
 }
 
 // A for keeps its form; its body begins with the rc that it ends with when begun from the rc before it.
-pub fn emit_for(
+fn emit_for(
     image: &[u32],
+    table: &[u32; SIZE],
     types: &[u32],
-    arrays: &[u32],
-    params: &[u32],
-    callees: &[u32],
     out: &mut [u32],
-    at: usize,
-    o: usize,
-    n: u32,
-    k: u32,
-    pc: bool,
-    arm: u32,
-    rc: bool,
-    first: u32,
-    rv: u32,
-    me: u32,
+    scope: Scope,
+    cursor: Cursor,
     level: u32,
 ) -> Cursor
-    requires { ⌜ FineStatement level (now params) me (now image) at × (opOf (getD (now image) at 0) ≡ 3) × Small (length (now image)) (length (now callees)) me at n k arm rv ⌝ }
-    ensures { λ r. ⌜ ((r, now (out .exit)) ≡ emitted (now (callees .entry)) (now (arrays .entry)) (now (types .entry)) first rv pc arm rc o n k (now (out .entry)) (readStatement level (now (params .entry)) me (now (image .entry)) at)) × Grown (length (now (image .entry))) at n k (r .at) (r .n) (r .k) ⌝ }
+    requires { ⌜ StatementRead level (paramsIn (now table)) (scope .me) (now image) (cursor .at) × Ready (now image) (now table) scope cursor
+        × (opOf (getD (now image) (cursor .at) 0) ≡ 3) ⌝ }
+    ensures { λ r. ⌜ ((r, now (out .exit)) ≡ emitted (proceduresIn (now (image .entry))) (arraysIn (now (table .entry))) (now (types .entry)) scope cursor
+        (now (out .entry)) (readStatement level (paramsIn (now (table .entry))) (scope .me) (now (image .entry)) (cursor .at)))
+        × Grown (length (now (image .entry))) cursor r ⌝ }
 {
-    let x = image[at] % 65536;
-    let y = copying::renumber(first, x);
-    let h = emit_for_head(image, out, at + 1, o, y, first, level - 1);
-    let a = h.at;
-    let p = h.o;
-    let s = contexts::rc_block(image, types, arrays, params, a, pc, rc, me, level - 1);
-    let e = s.rc;
-    let b = emit_body(
-        image,
-        types,
-        arrays,
-        params,
-        callees,
-        out,
-        a,
-        p,
-        k,
-        pc,
-        arm,
-        e,
-        first,
-        rv,
-        me,
-        level - 1,
-    );
+    let at = cursor.at;
+    let first = scope.first;
+    let y = renumber(first, target(image[at]));
+    let h = emit_for_head(image, out, at + 1, cursor.o, y, first, level - 1);
+    let before = Context {
+        pc: scope.pc,
+        rc: cursor.rc,
+    };
+    let s = rc_block(image, table, types, scope.me, before, h.at, level - 1);
+    let behind = Cursor {
+        at: h.at,
+        o: h.o,
+        n: 0,
+        k: cursor.k,
+        rc: s.rc,
+    };
+    let b = emit_body(image, table, types, out, scope, behind, level - 1);
     Cursor {
         at: b.at,
         o: b.o,
-        n: n + 1,
+        n: cursor.n + 1,
         k: b.k,
-        rc: e,
+        rc: s.rc,
     }
 }
 
 // A block with its own count, which is written once it is known.
-pub fn emit_body(
+fn emit_body(
     image: &[u32],
+    table: &[u32; SIZE],
     types: &[u32],
-    arrays: &[u32],
-    params: &[u32],
-    callees: &[u32],
     out: &mut [u32],
-    at: usize,
-    o: usize,
-    k: u32,
-    pc: bool,
-    arm: u32,
-    rc: bool,
-    first: u32,
-    rv: u32,
-    me: u32,
+    scope: Scope,
+    cursor: Cursor,
     level: u32,
 ) -> Cursor
-    requires { ⌜ FineBlock level (now params) me (now image) at × Small (length (now image)) (length (now callees)) me at 0 k arm rv ⌝ }
-    ensures { λ r. ⌜ ((r, now (out .exit)) ≡ emittedBody (now (callees .entry)) (now (arrays .entry)) (now (types .entry)) first rv pc arm rc o 0 k (now (out .entry)) (readBlock level (now (params .entry)) me (now (image .entry)) at)) × Grown (length (now (image .entry))) at 0 k (r .at) (r .n) (r .k) ⌝ }
+    requires { ⌜ BlockRead level (paramsIn (now table)) (scope .me) (now image) (cursor .at) × Ready (now image) (now table) scope cursor ⌝ }
+    ensures { λ r. ⌜ ((r, now (out .exit)) ≡ emittedBody (proceduresIn (now (image .entry))) (arraysIn (now (table .entry))) (now (types .entry)) scope cursor
+        (now (out .entry)) (readBlock level (paramsIn (now (table .entry))) (scope .me) (now (image .entry)) (cursor .at)))
+        × Grown (length (now (image .entry))) cursor r ⌝ }
 {
-    let p = tape::put(out, o, 0);
-    let c = emit_block(
-        image,
-        types,
-        arrays,
-        params,
-        callees,
-        out,
-        at,
-        p,
-        0,
-        k,
-        pc,
-        arm,
-        rc,
-        first,
-        rv,
-        me,
-        level,
-    );
-    let m = c.n;
-    tape::patch(out, o, 1342177280 + m);
+    let o = cursor.o;
+    let p = put(out, o, 0);
+    let inside = Cursor {
+        at: cursor.at,
+        o: p,
+        n: 0,
+        k: cursor.k,
+        rc: cursor.rc,
+    };
+    let c = emit_block(image, table, types, out, scope, inside, level);
+    patch(out, o, block_with(c.n));
     c
 }
 
 // The statements of a block, in line with those before them.
 pub fn emit_block(
     image: &[u32],
+    table: &[u32; SIZE],
     types: &[u32],
-    arrays: &[u32],
-    params: &[u32],
-    callees: &[u32],
     out: &mut [u32],
-    at: usize,
-    o: usize,
-    n: u32,
-    k: u32,
-    pc: bool,
-    arm: u32,
-    rc: bool,
-    first: u32,
-    rv: u32,
-    me: u32,
+    scope: Scope,
+    cursor: Cursor,
     level: u32,
 ) -> Cursor
-    requires { ⌜ FineBlock level (now params) me (now image) at × Small (length (now image)) (length (now callees)) me at n k arm rv ⌝ }
-    ensures { λ r. ⌜ ((r, now (out .exit)) ≡ emittedBlock (now (callees .entry)) (now (arrays .entry)) (now (types .entry)) first rv pc arm rc o n k (now (out .entry)) (readBlock level (now (params .entry)) me (now (image .entry)) at)) × Grown (length (now (image .entry))) at n k (r .at) (r .n) (r .k) ⌝ }
+    requires { ⌜ BlockRead level (paramsIn (now table)) (scope .me) (now image) (cursor .at) × Ready (now image) (now table) scope cursor ⌝ }
+    ensures { λ r. ⌜ ((r, now (out .exit)) ≡ emittedBlock (proceduresIn (now (image .entry))) (arraysIn (now (table .entry))) (now (types .entry)) scope cursor
+        (now (out .entry)) (readBlock level (paramsIn (now (table .entry))) (scope .me) (now (image .entry)) (cursor .at)))
+        × Grown (length (now (image .entry))) cursor r ⌝ }
 {
-    let count = image[at] % 268435456;
+    let at = cursor.at;
+    let count = payload(image[at]);
     let mut j = 0;
     let mut c = Cursor {
         at: at + 1,
-        o: o,
-        n: n,
-        k: k,
-        rc: rc,
+        o: cursor.o,
+        n: cursor.n,
+        k: cursor.k,
+        rc: cursor.rc,
     };
     while j < count {
-        let a = c.at;
-        let p = c.o;
-        let m = c.n;
-        let h = c.k;
-        let r = c.rc;
-        c = emit_statement(
-            image,
-            types,
-            arrays,
-            params,
-            callees,
-            out,
-            a,
-            p,
-            m,
-            h,
-            pc,
-            arm,
-            r,
-            first,
-            rv,
-            me,
-            level - 1,
-        );
+        c = emit_statement(image, table, types, out, scope, c, level - 1);
         j += 1;
     }
     c

@@ -1,72 +1,76 @@
 -- What each way out of the functions below `evaluate` gives. Assumes nothing.
-use mathlib.Core.Path.{_≡_, sym, ap}
+use mathlib.Core.Path.{_≡_, ap, _∙_}
 use mathlib.Core.List.{List}
-use Prim.Native.Nat.{ℕ, _+_, _/_, _%_, _≤_, _<_}
+use Prim.Native.Nat.{ℕ, _+_, _≤_, _<_}
+use native.Mathlib.Omega.{arith}
 use borrow.Author.Tests.{lt-ltb, le-ltb, ne-eqb}
 use lib.Dec.{eqb}
-use lib.ListN.{length, getD, List·getD-eq-default}
+use lib.ListN.{length, getD, length-take}
 use Rattle.definitions.specs.Choice.{pick}
+use Rattle.definitions.specs.Image.{arrayLength}
 use Rattle.definitions.specs.Operators.{applyBinary}
 use Rattle.definitions.specs.Running.{emit, divided, operated}
+use Rattle.tables.specs.Table.{arrayCountIn, arraysIn, baseIn}
 use Rattle.tracing.specs.declared.Value.{Value}
 use Rattle.tracing.specs.declared.Value.the-variants.{Got, Stop}
 use Rattle.tracing.specs.Log.{Log, log, byteTrace}
 use Rattle.tracing.specs.Answers.{evaluation, until}
-use Rattle.evaluator.specs.Cells.{entryAt, numbered, cellRead}
+use Rattle.evaluator.specs.Cells.{Bases, numbered, cellRead}
+use Rattle.evaluator.specs.CellLaws.{array-there}
 use Rattle.evaluator.specs.Results.{until-got, until-stop}
 
-pub element-past : (list : List ℕ) (i : ℕ) → length list ≤ i → 0 ≡ getD list i 0
-element-past list i h = sym (List·getD-eq-default list 0 h)
-
-pub entry-in : (tables : List ℕ) (a : ℕ) → a < 16 → getD tables a 0 ≡ entryAt tables a
-unfolding entryAt
-entry-in tables a h = rw (lt-ltb a 16 h)
-
-pub entry-past : (tables : List ℕ) (a : ℕ) → 16 ≤ a → 0 ≡ entryAt tables a
-unfolding entryAt
-entry-past tables a h = rw (le-ltb a 16 h)
-
-module _ (tables slice : List ℕ) (used a l v n : ℕ) (r : Value) (slice1 : List ℕ)
+module _ (table slice : List ℕ) (used a l v n : ℕ) (r : Value) (slice1 : List ℕ)
     (d : evaluation r slice1 ≡ until n (emit byteTrace 4 l v (log used slice))) where
-  pub index-full : (k q u : ℕ) → r ≡ Stop k q u → evaluation (Stop k q u) slice1 ≡ until n (numbered tables a l v (log used slice))
+  pub index-full : (k q u : ℕ) → r ≡ Stop k q u → evaluation r slice1 ≡ until n (numbered table a l v (log used slice))
   unfolding numbered evaluation until
-  index-full k q u s = rw (until-stop r slice1 n (emit byteTrace 4 l v (log used slice)) k q u d s)
+  index-full k q u s = rw (s, until-stop r slice1 n (emit byteTrace 4 l v (log used slice)) k q u d s)
 
-  module _ (i m u e : ℕ) (s : r ≡ Got i m u) (he : e ≡ entryAt tables a) where
-    pub index-in : i < e % 65536 → evaluation (Got (e / 65536 + i) m u) slice1 ≡ until n (numbered tables a l v (log used slice))
+  module _ (i m u : ℕ) (s : r ≡ Got i m u) (w k : ℕ) (hw : w ≡ getD (arraysIn table) a 0) (hk : k ≡ arrayLength w) where
+    length-is : k ≡ arrayLength (getD (arraysIn table) a 0)
+    length-is = hk ∙ ap arrayLength hw
+
+    -- the cell's number fits a word
+    pub index-fits : Bases table → i < k → (b : ℕ) → b ≡ baseIn table a → k < 65536 → b + i ≤ 66559
+    unfolding Bases
+    index-fits h q b hb z =
+        let e = length-is in
+        let c = length-take (arrayCountIn table) table in
+        let t = array-there (arraysIn table) a i (omega arith) in
+        let y = h a (omega arith) in omega arith
+
+    pub index-in : (b : ℕ) → b ≡ baseIn table a → i < k → evaluation (Got (b + i) m u) slice1 ≡ until n (numbered table a l v (log used slice))
     unfolding numbered evaluation until
-    index-in h = let (y, z) = until-got r slice1 n (emit byteTrace 4 l v (log used slice)) i m u d s in rw (y, z, ← he, lt-ltb i (e % 65536) h)
+    index-in b hb h =
+        let (y, z) = until-got r slice1 n (emit byteTrace 4 l v (log used slice)) i m u d s in rw (y, z, ← length-is, lt-ltb i k h, hb)
 
-    pub index-out : e % 65536 ≤ i → evaluation (Stop 23 l u) slice1 ≡ until n (numbered tables a l v (log used slice))
+    pub index-out : k ≤ i → evaluation (Stop 23 l u) slice1 ≡ until n (numbered table a l v (log used slice))
     unfolding numbered evaluation until
-    index-out h = let (y, z) = until-got r slice1 n (emit byteTrace 4 l v (log used slice)) i m u d s in rw (y, z, ← he, le-ltb i (e % 65536) h)
+    index-out h = let (y, z) = until-got r slice1 n (emit byteTrace 4 l v (log used slice)) i m u d s in rw (y, z, ← length-is, le-ltb i k h)
 
-pub ruleset index·rules = (index-full, index-in, index-out)
-
-module _ (tables cells slice : List ℕ) (used a l v n : ℕ) (r : Value) (slice1 : List ℕ)
-    (d : evaluation r slice1 ≡ until n (numbered tables a l v (log used slice))) where
-  pub cell-stop : (k q u : ℕ) → r ≡ Stop k q u → evaluation (Stop k q u) slice1 ≡ until n (cellRead tables cells a l v (log used slice))
+module _ (table cells slice : List ℕ) (used a l v n : ℕ) (r : Value) (slice1 : List ℕ)
+    (d : evaluation r slice1 ≡ until n (numbered table a l v (log used slice))) where
+  pub cell-stop : (k q u : ℕ) → r ≡ Stop k q u → evaluation r slice1 ≡ until n (cellRead table cells a l v (log used slice))
   unfolding cellRead evaluation until
-  cell-stop k q u s = rw (until-stop r slice1 n (numbered tables a l v (log used slice)) k q u d s)
+  cell-stop k q u s = rw (s, until-stop r slice1 n (numbered table a l v (log used slice)) k q u d s)
 
-  pub cell-got : (i m u x : ℕ) → r ≡ Got i m u → x ≡ getD cells i 0 → evaluation (Got x m u) slice1 ≡ until n (cellRead tables cells a l v (log used slice))
+  pub cell-got : (i m u k x : ℕ) → r ≡ Got i m u → k ≡ i → x ≡ getD cells k 0 → evaluation (Got x m u) slice1 ≡ until n (cellRead table cells a l v (log used slice))
   unfolding cellRead evaluation until
-  cell-got i m u x s e = let (y, z) = until-got r slice1 n (numbered tables a l v (log used slice)) i m u d s in rw (y, z, e)
+  cell-got i m u k x s h e = let (y, z) = until-got r slice1 n (numbered table a l v (log used slice)) i m u d s in rw (y, z, e, h)
 
 pub ruleset cell·rules = (cell-stop, cell-got)
 
 module _ (slice : List ℕ) (used p o a b n : ℕ) (r : Value) (slice1 : List ℕ)
     (d : evaluation r slice1 ≡ until n (emit byteTrace 5 p a (log used slice))) where
-  pub divide-full : (k q u : ℕ) → r ≡ Stop k q u → evaluation (Stop k q u) slice1 ≡ until n (divided byteTrace p o a b (log used slice))
+  pub divide-full : (k q u : ℕ) → r ≡ Stop k q u → evaluation r slice1 ≡ until n (divided byteTrace p o a b (log used slice))
   unfolding divided evaluation until
-  divide-full k q u s = rw (until-stop r slice1 n (emit byteTrace 5 p a (log used slice)) k q u d s)
+  divide-full k q u s = rw (s, until-stop r slice1 n (emit byteTrace 5 p a (log used slice)) k q u d s)
 
   module _ (i m u : ℕ) (s : r ≡ Got i m u) (r2 : Value) (slice2 : List ℕ)
       (d2 : evaluation r2 slice2 ≡ until m (emit byteTrace 6 p b (log u slice1))) where
-    pub divide-full2 : (k q u2 : ℕ) → r2 ≡ Stop k q u2 → evaluation (Stop k q u2) slice2 ≡ until n (divided byteTrace p o a b (log used slice))
+    pub divide-full2 : (k q u2 : ℕ) → r2 ≡ Stop k q u2 → evaluation r2 slice2 ≡ until n (divided byteTrace p o a b (log used slice))
     unfolding divided evaluation until
     divide-full2 k q u2 s2 =
-        let (y, z) = until-got r slice1 n (emit byteTrace 5 p a (log used slice)) i m u d s in rw (y, until-stop r2 slice2 m (emit byteTrace 6 p b (log u slice1)) k q u2 d2 s2)
+        let (y, z) = until-got r slice1 n (emit byteTrace 5 p a (log used slice)) i m u d s in rw (s2, y, until-stop r2 slice2 m (emit byteTrace 6 p b (log u slice1)) k q u2 d2 s2)
 
     module _ (j m2 u2 : ℕ) (s2 : r2 ≡ Got j m2 u2) where
       pub divide-zero : b ≡ 0 → evaluation (Stop 24 p u2) slice2 ≡ until n (divided byteTrace p o a b (log used slice))

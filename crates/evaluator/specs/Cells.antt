@@ -1,32 +1,24 @@
--- The lookup table for arrays: its first 16 words hold, for each array, where its cells begin × 65536 + its length.
--- (What stands behind those is the runner's.)
--- Assumes nothing.
-use mathlib.Core.Path.{_≡_}
+-- The cell of an index, by the table. Assumes nothing.
+use Prim.Native.Nat.{ℕ, _+_, _≤_, _<_}
 use mathlib.Core.List.{List}
-use Prim.Native.Nat.{ℕ, _+_, _/_, _%_, _≤_, _<_}
 use lib.Dec.{ltb}
-use lib.ListN.{length, getD}
+use lib.ListN.{getD}
 use Rattle.definitions.specs.Choice.{pick}
-use Rattle.definitions.specs.Image.{arrayLength, baseOf}
+use Rattle.definitions.specs.Image.{arrayLength}
 use Rattle.definitions.specs.Running.{Evaluated, value, stop, bind, emit}
+use Rattle.tables.specs.Table.{arrayCountIn, arraysIn, baseIn}
 use Rattle.tracing.specs.Log.{Log, byteTrace}
 
--- the entry of an array; 0, which is no cell, for a number past the table's part
-unfoldable pub entryAt : List ℕ → ℕ → ℕ
-entryAt tables a = pick (ltb a 16) (getD tables a 0) 0
+-- the cells of each array begin within the most cells that an image has
+unfoldable pub Bases : List ℕ → Type 0
+Bases table = (a : ℕ) → a < arrayCountIn table → baseIn table a ≤ 1024
 
--- the table tells the given array words' lengths, and where each array that has a cell begins
-pub record Layout (arrays tables : List ℕ) : Type 0 where
-  pub long : 16 ≤ length tables
-  pub lengths : (a : ℕ) → entryAt tables a % 65536 ≡ arrayLength (getD arrays a 0)
-  pub bases : (a : ℕ) → 0 < entryAt tables a % 65536 → entryAt tables a / 65536 ≡ baseOf arrays a
-
--- the cell of an index: its entry in the trace, "23 index beyond the array", else the cell's number among all cells
+-- its entry in the trace, "23 index beyond the array", else the cell's number among all cells
 unfoldable pub numbered : List ℕ → ℕ → ℕ → ℕ → Log → Evaluated Log ℕ
-numbered tables a l v t =
+numbered table a l v t =
     bind (emit byteTrace 4 l v t)
-    (λ i u. pick (ltb i (entryAt tables a % 65536)) (value (entryAt tables a / 65536 + i) u) (stop 23 l u))
+    (λ i u. pick (ltb i (arrayLength (getD (arraysIn table) a 0))) (value (baseIn table a + i) u) (stop 23 l u))
 
 -- what stands in that cell
 unfoldable pub cellRead : List ℕ → List ℕ → ℕ → ℕ → ℕ → Log → Evaluated Log ℕ
-cellRead tables cells a l v t = bind (numbered tables a l v t) (λ n u. value (getD cells n 0) u)
+cellRead table cells a l v t = bind (numbered table a l v t) (λ n u. value (getD cells n 0) u)

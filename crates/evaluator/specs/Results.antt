@@ -1,10 +1,12 @@
 -- What an answer says of the definition's result. Assumes nothing.
-use mathlib.Core.Path.{_≡_, sym, ap, ap₂}
+use mathlib.Core.Bool.{true}
+use mathlib.Core.Path.{_≡_, sym, ap, ap₂, _∙_}
 use mathlib.Core.List.{List}
 use Prim.Native.Nat.{ℕ}
 use Rattle.definitions.specs.Image.{Expression}
 use Rattle.definitions.specs.Reading.{Parse, got}
 use Rattle.definitions.specs.Running.{Evaluated, value, stop, evaluate as valueOf}
+use Rattle.laws.specs.Parses.{ok, endOf, got-ok, end-of}
 use Rattle.tracing.specs.declared.Value.{Value}
 use Rattle.tracing.specs.declared.Value.the-variants.{Got, Stop}
 use Rattle.tracing.specs.Log.{Log, log, byteTrace}
@@ -55,3 +57,11 @@ module _ (arrays vs cs : List ℕ) (t : Log) (x : Parse Expression) (e : Express
 
   pub tree-stop : (k q u : ℕ) → r ≡ Stop k q u → valueOf byteTrace arrays e vs cs t ≡ stop k q (log u slice)
   tree-stop k q u s = until-stop r slice n (valueOf byteTrace arrays e vs cs t) k q u at-tree s
+
+-- the place answered is the place after the expression
+pub tree-end : (arrays vs cs : List ℕ) (t : Log) (x : Parse Expression) → ok x ≡ true → (r : Value) (slice : List ℕ)
+    → evaluation r slice ≡ evaluateAt arrays vs cs t x → (v m u : ℕ) → r ≡ Got v m u → m ≡ endOf x
+tree-end arrays vs cs t x o r slice d v m u s =
+    let (e, n, w) = got-ok x o in
+    let (y, z) = tree-got arrays vs cs t x e n w r slice d v m u s in
+    sym z ∙ sym (end-of x e n w)

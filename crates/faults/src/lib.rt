@@ -1,13 +1,10 @@
-// The lowest fault so far, and what a variable's type word says: what both passes of the checker share.
+// The lowest fault so far, as both passes of the checker carry it. The laws that they share stand in specs/.
 use definitions::Fault;
 ghost use mathlib.Core.Path.{_≡_};
 ghost use mathlib.Core.Bool.{_&&_, _||_};
 ghost use lib.Dec.{eqb, ltb};
-ghost use Prim.Native.Nat.{ℕ, _≤_, _<_};
-ghost use lib.ListN.{getD, length};
-ghost use Rattle.definitions.specs.Faults.{fault, noFault, least, faultIf};
-ghost use Rattle.definitions.specs.Image.{typeSort, typeSecret};
-ghost use Rattle.definitions.specs.Sorts.{sortOf, wrongSort};
+ghost use Prim.Native.Nat.{_≤_};
+ghost use Rattle.definitions.specs.Faults.{least, faultIf};
 
 // Whether a fault with this number and place goes before `best`: the lower place, or on one word the lower number.
 fn goes_before(best: Fault, number: u32, place: usize) -> bool

@@ -1,6 +1,6 @@
 pub mod OperandRules
 pub mod ExpressionRules
-pub mod FlowRules
-pub mod CallRules
+pub mod LeafRules
+pub mod LoopRules
 pub mod StatementRules
 pub mod ProcedureRules

@@ -4,7 +4,7 @@ use Prim.Native.Nat.{ℕ, _≤_, _<_}
 use native.Mathlib.Omega.{arith}
 use mathlib.Core.Path.{_≡_, refl, sym, ap, _∙_}
 use mathlib.Core.Bool.{Bool, true, false, _&&_, _||_}
-use mathlib.Core.List.{List, [], _∷_, _++_}
+use mathlib.Core.List.{List, [], _∷_}
 use lib.Dec.{ltb, eqb}
 use borrow.Author.Tests.{ltb-true, ltb-false, eqb-true, eqb-false, ne-eqb}
 use Rattle.definitions.specs.Choice.{pick}
@@ -119,7 +119,8 @@ late-fault b f [] h = refl
 late-fault b f (g ∷ fs) h = late-fault (lower b g) f fs h ∙ ap (λ x. least x fs) (swap b f g h)
 
 -- a rule's fault, noted after the faults that are listed behind it
-pub least-late : (b : Fault) (c : Bool) (n p : ℕ) (fs : List Fault) → 1 ≤ n → least (least b fs) (faultIf c n p) ≡ least b (faultIf c n p ++ fs)
+pub least-late : (n : ℕ) → 1 ≤ n → (b : Fault) (c : Bool) (p : ℕ) (fs : List Fault)
+    → least (least b fs) (faultIf c n p) ≡ least (least b (faultIf c n p)) fs
 unfolding least
-least-late b true n p fs h = late-fault b (fault n p) fs (ne-eqb n 0 (λ z. omega (arith, h, z)))
-least-late b false n p fs h = refl
+least-late n h b true p fs = late-fault b (fault n p) fs (ne-eqb n 0 (λ z. omega (arith, h, z)))
+least-late n h b false p fs = refl

@@ -4,7 +4,6 @@ use Prim.Native.Nat.{ℕ, _+_}
 use mathlib.Core.Bool.{Bool, true, false, _&&_, _||_}
 use mathlib.Core.List.{List}
 use mathlib.Core.Path.{_≡_, refl}
-use borrow.Author.Tests.{eqb-true, eqb-false}
 use lib.Dec.{eqb, ltb, leb}
 use lib.ListN.{getD}
 use Rattle.definitions.specs.Choice.{pick}
@@ -13,8 +12,9 @@ use Rattle.definitions.specs.Image.{select}
 use Rattle.definitions.specs.Reading.{got, readExpression}
 use Rattle.definitions.specs.Labels.{isConstant, constantValue, boundedIndex, unbounded}
 use Rattle.laws.specs.Parses.{ok, ok-of, got-same}
+use Rattle.laws.specs.WordTests.{kinds}
 use Rattle.laws.specs.ExpressionInversion.{open-constant, open-raw, open-boolean, open-variable, open-cell, open-unary}
-use Rattle.laws.specs.ExpressionInversion.{open-binary, open-select, last-kind}
+use Rattle.laws.specs.ExpressionInversion.{open-expression, open-binary, open-select}
 
 unfoldable pub constantAt : List ℕ → ℕ → Bool
 constantAt image at = eqb (kindOf (getD image at 0)) 7 || eqb (kindOf (getD image at 0)) 8
@@ -38,13 +38,6 @@ abbrev pub Says : List ℕ → ℕ → Expression → Type 0
 Says image at e =
     (constantAt image at ≡ isConstant e) × (valueAt image at ≡ constantValue e)
     × ((bounds : List ℕ) (size : ℕ) → boundedAt image bounds size at ≡ boundedIndex bounds size e)
-
-either : {C : Type 0} (a b : ℕ) → (a ≡ b → C) → ((a ≡ b → ⊥) → C) → C
-either {C} a b f g = by (eqb a b) refl
-  where
-    by : (t : Bool) → eqb a b ≡ t → C
-    by true e = f (eqb-true a b e)
-    by false e = g (eqb-false a b e)
 
 module _ (image : List ℕ) (at : ℕ) where
   says-other : (e : Expression) (k : ℕ) → kindOf (getD image at 0) ≡ k → eqb k 7 ≡ false → eqb k 8 ≡ false → eqb k 10 ≡ false
@@ -80,19 +73,14 @@ module _ (l : ℕ) (image : List ℕ) (at : ℕ) (e : Expression) (n : ℕ) (q :
   unfolding isConstant constantValue boundedIndex
   operand-words =
       let p = payloadOf (getD image at 0) in
-      either (kindOf (getD image at 0)) 7 (λ k. same-tree _ _ (open-constant l image at t k) (says-constant image at k))
-      (λ n7. either (kindOf (getD image at 0)) 8 (λ k. same-tree _ _ (open-raw l image at t k .2) (says-raw image at k))
-      (λ n8. either (kindOf (getD image at 0)) 9
+      kinds (getD image at 0) (open-expression l image at t .2)
+      (λ k. same-tree _ _ (open-constant l image at t k) (says-constant image at k))
+      (λ k. same-tree _ _ (open-raw l image at t k .2) (says-raw image at k))
       (λ k. other-tree (boolean at p) (at + 1) 9 k (open-boolean l image at t k) refl refl refl refl refl (λ bounds size. refl))
-      (λ n9. either (kindOf (getD image at 0)) 10 (λ k. same-tree _ _ (open-variable l image at t k) (says-variable image at k))
-      (λ n10. either (kindOf (getD image at 0)) 11
+      (λ k. same-tree _ _ (open-variable l image at t k) (says-variable image at k))
       (λ k. let (i, m, a, r) = open-cell l image at t k in other-tree (cell at p i) m 11 k r refl refl refl refl refl (λ bounds size. refl))
-      (λ n11. either (kindOf (getD image at 0)) 12
       (λ k. let (i, m, a, r) = open-unary l image at t k in other-tree (unary at p i) m 12 k r refl refl refl refl refl (λ bounds size. refl))
-      (λ n12. either (kindOf (getD image at 0)) 13
       (λ k. let (i, m, j, o, a, b, r) = open-binary l image at t k in
       other-tree (binary at p i j) o 13 k r refl refl refl refl refl (λ bounds size. refl))
-      (λ n13.
-      let k = last-kind l image at t n7 n8 n9 n10 n11 n12 n13 in
-      let (c, m, i, o, j, z, a, b, d, r) = open-select l image at t k in
-      other-tree (select at c i j) z 14 k r refl refl refl refl refl (λ bounds size. refl))))))))
+      (λ k. let (c, m, i, o, j, z, a, b, d, r) = open-select l image at t k in
+      other-tree (select at c i j) z 14 k r refl refl refl refl refl (λ bounds size. refl))

@@ -1,20 +1,30 @@
 -- What the walk of a part that was read gives: what the definitions say of its tree, and the place after it. Assumes nothing.
 use Prim.Native.Nat.{ℕ}
 use mathlib.Core.Bool.{Bool, false, _&&_, _||_, not}
-use mathlib.Core.List.{List}
+use mathlib.Core.List.{List, _++_}
 use lib.Dec.{eqb, leb}
 use lib.ListN.{getD}
+use Rattle.definitions.specs.Choice.{pick}
 use Rattle.definitions.specs.declared.Fault.{Fault}
 use Rattle.definitions.specs.Image.{arrayLength, Expression}
 use Rattle.definitions.specs.Operators.{both}
 use Rattle.definitions.specs.Reading.{Parse, got, refused}
 use Rattle.definitions.specs.Faults.{least, faultIf}
-use Rattle.definitions.specs.Labels.{secretIn, labelFaults}
+use Rattle.definitions.specs.Labels.{secretIn, labelFaults, argumentLabelFaults, loopBoundFaults, isConstant}
+use Rattle.definitions.specs.Labels.{constantValue, unbounded}
 use Rattle.labels.specs.Operand.{valueAt, boundedAt}
-use Rattle.labels.specs.declared.expressions.Labelled.{Labelled}
+use Rattle.labels.specs.declared.Labelled.{Labelled}
+use Rattle.labels.specs.declared.Ended.{Ended}
+use Rattle.labels.specs.declared.Limited.{Limited}
 
 abbrev pub label : Bool → ℕ → Fault → Labelled
 label s n b = record { secret = s; next = n; best = b }
+
+abbrev pub ending : ℕ → Fault → Ended
+ending n b = record { next = n; best = b }
+
+abbrev pub limiting : ℕ → ℕ → Fault → Limited
+limiting i n b = record { inside = i; next = n; best = b }
 
 -- an expression: whether it is secret, the place after it, the lowest fault
 unfoldable pub labelled : List ℕ → List ℕ → List ℕ → Bool → Fault → Parse Expression → Labelled
@@ -40,3 +50,22 @@ operatorNoted image publics context left leftSecret right rightSecret best =
     least
     (least (least best (faultIf (eqb publics both && leftSecret) 10 left)) (faultIf (leb 1 publics && rightSecret) 10 right))
     (faultIf (context && (eqb publics both && eqb (valueAt image right) 0)) 11 right)
+
+module _ (types arrays bounds : List ℕ) (context : Bool) where
+  -- the arguments of a call from number k on, by the type words of the called procedure
+  unfoldable pub arguedAll : List ℕ → ℕ → Fault → Parse (List Expression) → Ended
+  arguedAll callee k best (got es n) = ending n (least best (argumentLabelFaults types arrays bounds context callee k es))
+  arguedAll callee k best (refused n p) = ending 0 best
+
+  -- one of a for's bounds
+  unfoldable pub bounding : Fault → Parse Expression → Labelled
+  bounding best (got e n) = label (secretIn types arrays e) n (least best (loopBoundFaults types arrays bounds context e))
+  bounding best (refused n p) = label false 0 best
+
+  -- both bounds of a for, and the bound of its variable in its block
+  unfoldable pub limited : Fault → Parse Expression → Parse Expression → Limited
+  limited best (got f n) (got t m) =
+      limiting (pick (isConstant f && isConstant t) (constantValue t) unbounded) m
+      (least best (loopBoundFaults types arrays bounds context f ++ loopBoundFaults types arrays bounds context t))
+  limited best (got f n) (refused m p) = limiting 0 0 best
+  limited best (refused n p) y = limiting 0 0 best

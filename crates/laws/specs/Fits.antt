@@ -79,8 +79,8 @@ abbrev pub arityOf : List Procedure → ℕ → ℕ
 arityOf ps f = procedureAt ps f .parameters
 
 -- a table has the number of parameters of each procedure before the one numbered `me`
-abbrev pub Known : List ℕ → ℕ → (ℕ → ℕ) → Type 0
-Known params me arity = (f : ℕ) → f < me → getD params f 0 ≡ arity f
+abbrev pub Arities : List ℕ → ℕ → (ℕ → ℕ) → Type 0
+Arities params me arity = (f : ℕ) → f < me → getD params f 0 ≡ arity f
 
 pub record FitsImage (i : Image) : Type 0 where
   pub form-fits : i .form < 2

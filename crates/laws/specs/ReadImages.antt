@@ -3,7 +3,7 @@
 use Prim.Native.Nat.{ℕ, zero, suc, _+_, _*_, _-_, _≤_, _<_}
 use mathlib.Core.Bool.{Bool, true, false, _&&_}
 use mathlib.Core.List.{List, _∷_, flatMap}
-use mathlib.Core.Path.{_≡_, refl, ap, sym, _∙_}
+use mathlib.Core.Path.{_≡_, refl, ap, sym, subst, _∙_}
 use native.Mathlib.Omega.{arith}
 use native.Mathlib.Nat.{zero-add, add-zero}
 use borrow.Author.Tests.{leb-true, eqb-true, eqb-false}
@@ -21,7 +21,7 @@ use Rattle.laws.specs.Tests.{and-left, and-right}
 use Rattle.laws.specs.WordTests.{header-limits, procedure-limits, array-limits}
 use Rattle.laws.specs.Trees.{BlockPlaces, ProceduresPlaces, no-procedure, and-procedure}
 use Rattle.laws.specs.Fits.{AllTypes, no-types, more-types, FitsArrays, no-arrays, more-arrays, FitsProcedure}
-use Rattle.laws.specs.Fits.{FitsProcedures, no-procedures, more-procedures, arityOf, Known, FitsImage}
+use Rattle.laws.specs.Fits.{FitsProcedures, no-procedures, more-procedures, arityOf, Arities, FitsImage}
 use Rattle.laws.specs.Spelled.{On, on-none, on-more, on-join, on-length, on-end, on-rest, Words, words-on}
 use Rattle.laws.specs.Reads.{Reads, reads, refuses, read-as, no-image, wrong-word, spare-word, reads-then}
 use Rattle.laws.specs.Reads.{reads-word, Inside, ReadBlock, reads-block}
@@ -30,8 +30,8 @@ use Rattle.laws.specs.Levels.{Agree}
 use Rattle.laws.specs.Parameters.{block-params}
 
 -- a table that has one procedure's number of parameters more
-pub known-next : (params : List ℕ) (me : ℕ) (arity : ℕ → ℕ) (n : ℕ) → me < length params → arity me ≡ n → Known params me arity
-    → Known (set params me n) (me + 1) arity
+pub known-next : (params : List ℕ) (me : ℕ) (arity : ℕ → ℕ) (n : ℕ) → me < length params → arity me ≡ n → Arities params me arity
+    → Arities (set params me n) (me + 1) arity
 known-next params me arity n l e known f h = go (eqb f me) refl
   where
     go : (b : Bool) → eqb f me ≡ b → getD (set params me n) f 0 ≡ arity f
@@ -115,14 +115,36 @@ module _ (image : List ℕ) where
       pub tested : procedureWord form (getD image at 0) ≡ true
       pub begins : at + 1 < length image
       pub ends : (at < next) × (next ≤ length image)
-      pub fits : (arity : ℕ → ℕ) → Known params me arity → FitsProcedure form arity me p
+      pub fits : (arity : ℕ → ℕ) → Arities params me arity → FitsProcedure form arity me p
       pub places : BlockPlaces (Inside image) (p .body)
       pub words : On image at (procedureWords p) next
 
+    -- only the numbers of parameters of the procedures before it count
+    same-words : (params params′ : List ℕ) (me at : ℕ) (p : Procedure) (next : ℕ) → Agree me params′ params → ProcedureWords params me at p next
+        → ProcedureWords params′ me at p next
+    same-words params params′ me at p next agree x =
+        record {
+          place = x .place;
+          mode = x .mode;
+          parameters = x .parameters;
+          result = x .result;
+          types = x .types;
+          body = block-params params′ params me agree image (largestLevel form) (at + 1 + 1 + length (p .types)) ∙ x .body;
+          tested = x .tested;
+          begins = x .begins;
+          ends = x .ends;
+          fits = λ arity known. x .fits arity (λ f l. sym (agree f l) ∙ known f l);
+          places = x .places;
+          words = x .words;
+        }
+
     record ReadProcedures (params : List ℕ) (me n at : ℕ) (ps : List Procedure) (next : ℕ) : Type 0 where
       count : length ps ≡ n
-      fits : (arity : ℕ → ℕ) → Known params me arity → ((i : ℕ) → i < length ps → arity (me + i) ≡ arityOf ps i)
+      fits : (arity : ℕ → ℕ) → Arities params me arity → ((i : ℕ) → i < length ps → arity (me + i) ≡ arityOf ps i)
           → FitsProcedures form arity me ps
+      each : (arity : ℕ → ℕ) → Arities params me arity → ((i : ℕ) → i < length ps → arity (me + i) ≡ arityOf ps i)
+          → (last : List ℕ) → Arities last (me + length ps) arity → (i : ℕ) → i < length ps
+          → (m : ℕ) × ProcedureWords last (me + i) (procedureAt ps i .place) (procedureAt ps i) m
       places : ProceduresPlaces (Inside image) ps
       words : On image at (proceduresWords ps) next
 
@@ -197,11 +219,36 @@ module _ (image : List ℕ) where
         with-body h g h′ t ts n x z e (reads {a = b} {m} y) = reads (whole-procedure params me at h g h′ t ts n x b m e y)
         with-body h g h′ t ts n x z e (refuses r) = refuses r
 
+    -- the first of some procedures, or one after it
+    one : (params : List ℕ) (me at : ℕ) (p : Procedure) (m : ℕ) → ProcedureWords params me at p m → (ps : List Procedure) → me < length params
+        → (arity : ℕ → ℕ) → Arities params me arity → ((i : ℕ) → i < length (p ∷ ps) → arity (me + i) ≡ arityOf (p ∷ ps) i)
+        → (last : List ℕ) → Arities last (me + length (p ∷ ps)) arity
+        → (arity me ≡ p .parameters → (i : ℕ) → i < length ps
+        → (o : ℕ) × ProcedureWords last (me + 1 + i) (procedureAt ps i .place) (procedureAt ps i) o)
+        → (i : ℕ) → i < length (p ∷ ps)
+        → (o : ℕ) × ProcedureWords last (me + i) (procedureAt (p ∷ ps) i .place) (procedureAt (p ∷ ps) i) o
+    one params me at p m x ps low arity known all last more rest zero h =
+        let e : me + 0 ≡ me = omega arith in (
+          m,
+          rw e (subst (λ (q : ℕ). ProcedureWords last me q p m) (sym (x .place))
+              (same-words params last me at p m (λ g l. more g (omega arith) ∙ sym (known g l)) x)),
+        )
+    one params me at p m x ps low arity known all last more rest (suc i) h =
+        let e : me + suc i ≡ me + 1 + i = omega arith in
+        let first : arity me ≡ p .parameters = ap arity (omega arith) ∙ all 0 (omega arith) in
+        rw e (rest first i (omega arith))
+
     reads-procedures : (n : ℕ) (params : List ℕ) (me at : ℕ) → me + n ≤ length params
         → Reads (length image) (ReadProcedures params me n at) (readProcedures n form params me image at)
     unfolding readProcedures proceduresWords flatMap
     reads-procedures zero params me at room =
-        reads (record { count = refl; fits = λ arity known all. no-procedures; places = no-procedure; words = on-none })
+        reads (record {
+          count = refl;
+          fits = λ arity known all. no-procedures;
+          each = λ arity known all last more i h. absurd (omega arith);
+          places = no-procedure;
+          words = on-none;
+        })
     reads-procedures (suc n) params me at room =
         reads-then (reads-procedure params me at)
         (λ p m x. reads-then (reads-procedures n (set params me (p .parameters)) (me + 1) m (rw (length-set params me (p .parameters)) (omega arith)))
@@ -212,6 +259,9 @@ module _ (image : List ℕ) where
               more-procedures first (x .fits arity known)
               (y .fits arity (known-next params me arity (p .parameters) (omega arith) first known)
               (λ i h. ap arity (omega arith) ∙ all (suc i) (omega arith)));
+          each = λ arity known all last more i h. one params me at p m x ps (omega arith) arity known all last more
+              (λ first. y .each arity (known-next params me arity (p .parameters) (omega arith) first known)
+              (λ j l. ap arity (omega arith) ∙ all (suc j) (omega arith)) last (λ g l. more g (omega arith))) i h;
           places = and-procedure (x .places) (y .places);
           words = on-join (x .words) (y .words);
         })))
@@ -249,6 +299,8 @@ pub record ImageWords (whole : Bool) (image : List ℕ) (tree : Image) (next : �
   pub procedures : readProcedures (proceduresOf (getD image 0 0)) (tree .form) (replicate 32 0) 0 image (1 + length (tree .arrays))
       ≡ got (tree .procedures) (length image)
   pub count : length (tree .procedures) ≡ proceduresOf (getD image 0 0)
+  pub each : (params : List ℕ) → Arities params (length (tree .procedures)) (arityOf (tree .procedures)) → (f : ℕ) → f < length (tree .procedures)
+      → (m : ℕ) × ProcedureWords image (tree .form) params f (procedureAt (tree .procedures) f .place) (procedureAt (tree .procedures) f) m
   pub ends : next ≡ length image
   pub fits : FitsImage tree
   pub places : ProceduresPlaces (Inside image) (tree .procedures)
@@ -284,6 +336,8 @@ module _ (image : List ℕ) (some : 0 < length image) (h : headerWord (getD imag
             ap (λ z. readProcedures (proceduresOf (getD image 0 0)) (formOf (getD image 0 0)) (replicate 32 0) 0 image z) (sym b) ∙ r
             ∙ ap (λ z. got ps z) e;
         count = d;
+        each = λ params known f l.
+            rw zero-add at (y .each (arityOf ps) (λ g b. absurd (omega arith)) (λ i b. ap (arityOf ps) (zero-add i)) params (λ g b. known g (omega arith)) f l);
         ends = e;
         fits = record {
           form-fits = form;

@@ -25,7 +25,7 @@ use Rattle.laws.specs.Trees.{in-done, in-sequence}
 use Rattle.laws.specs.Fits.{FitsExpression, fit-constant, fit-boolean, fit-variable, fit-cell, fit-unary}
 use Rattle.laws.specs.Fits.{fit-binary, fit-select, FitsAll, fit-none, fit-more, FitsStatement, fit-assign}
 use Rattle.laws.specs.Fits.{fit-store, fit-conditional, fit-loop, fit-return, fit-call, FitsBlock, fit-block}
-use Rattle.laws.specs.Fits.{FitsStatements, fit-done, fit-sequence, Known}
+use Rattle.laws.specs.Fits.{FitsStatements, fit-done, fit-sequence, Arities}
 use Rattle.laws.specs.Spelled.{On, on-none, on-more, on-join}
 
 -- "1 empty, too long or not whole words. 2 [word] wrong kind or payload. 3 [length] ends early. 4 [first spare word].
@@ -178,18 +178,18 @@ module _ (image : List ℕ) where
   module _ (params : List ℕ) (me : ℕ) where
     pub record ReadStatement (l at : ℕ) (s : Statement) (next : ℕ) : Type 0 where
       pub inside : at < length image
-      pub fits : (arity : ℕ → ℕ) → Known params me arity → FitsStatement arity me l s
+      pub fits : (arity : ℕ → ℕ) → Arities params me arity → FitsStatement arity me l s
       pub places : StatementPlaces Inside s
       pub words : On image at (statementWords s) next
 
     pub record ReadStatements (l n at : ℕ) (b : Block) (next : ℕ) : Type 0 where
       pub count : statementCount b ≡ n
-      pub fits : (arity : ℕ → ℕ) → Known params me arity → FitsStatements arity me l b
+      pub fits : (arity : ℕ → ℕ) → Arities params me arity → FitsStatements arity me l b
       pub places : BlockPlaces Inside b
       pub words : On image at (statementsWords b) next
 
     pub record ReadBlock (l at : ℕ) (b : Block) (next : ℕ) : Type 0 where
-      pub fits : (arity : ℕ → ℕ) → Known params me arity → FitsBlock arity me l b
+      pub fits : (arity : ℕ → ℕ) → Arities params me arity → FitsBlock arity me l b
       pub places : BlockPlaces Inside b
       pub words : On image at (blockWords b) next
 

@@ -1,17 +1,38 @@
-// The type words of the temporaries that a procedure takes, by place. The parameters are those of the emission.
+// The type words of the temporaries that a procedure takes, by place.
+use contexts::Context;
+use contexts::rc_block;
+use contexts::rc_statement;
+use contexts::secret_expression;
+use image_words::called;
+use image_words::made::SECRET_BOOLEAN;
+use image_words::made::secret_of;
+use image_words::ops;
+use image_words::payload;
+use image_words::skipping::skip;
+use image_words::type_sort;
+use tables::SIZE;
+use tables::signatures::result_type;
+use writer::put;
+use writer::put_two;
 ghost use mathlib.Core.Path.{_≡_};
-ghost use Prim.Native.Nat.{_+_, _*_, _%_, _≤_, _<_};
-ghost use lib.ListN.{length, getD};
+ghost use lib.ListN.{getD};
 ghost use Rattle.definitions.specs.Image.{opOf};
 ghost use Rattle.definitions.specs.Reading.{readStatement, readBlock};
 ghost use Rattle.definitions.specs.Compiling.{ifTemporaries, callTemporary};
-ghost use Rattle.laws.specs.Parses.{ok};
-ghost use Rattle.tape.specs.Tape.{writes};
-ghost use Rattle.contexts.specs.Fine.{FineStatement, FineBlock, statementsLeft};
-ghost use Rattle.emission.specs.Callees.{calleesOf};
+ghost use Rattle.laws.specs.ImageIn.{proceduresIn};
+ghost use Rattle.image_words.specs.Read.{StatementRead, BlockRead};
+ghost use Rattle.tables.specs.Table.{arraysIn, paramsIn};
+ghost use Rattle.tables.specs.Looking.{Listed};
+ghost use Rattle.writer.specs.Writing.{writes};
 ghost use Rattle.locals.specs.Typing.{typed, typedBlock};
 
-// The places in the source and in the output, and rc.
+// Where the walk is: the number of the procedure, and whether pc is secret.
+pub struct Scope {
+    pub me: u32,
+    pub pc: bool,
+}
+
+// How far the walk has come: the places in the source and in the output, and rc.
 pub struct Typed {
     pub at: usize,
     pub o: usize,
@@ -19,83 +40,64 @@ pub struct Typed {
 }
 
 // T and E of a secret if.
-pub fn type_arms(out: &mut [u32], o: usize, secret: bool) -> usize
+fn type_arms(out: &mut [u32], o: usize, secret: bool) -> usize
     ensures { λ r. ⌜ (r, now (out .exit)) ≡ writes o (now (out .entry)) (ifTemporaries secret) ⌝ }
 {
     if secret {
-        return masking::put_two(out, o, 1073741827, 1073741827);
+        return put_two(out, o, SECRET_BOOLEAN, SECRET_BOOLEAN);
     }
     o
 }
 
-// The temporary of a call in a secret context.
-pub fn type_result(callees: &[u32], out: &mut [u32], o: usize, f: u32, secret: bool) -> usize
-    requires { ⌜ f < length (now callees) ⌝ }
-    ensures { λ r. ⌜ (r, now (out .exit)) ≡ writes o (now (out .entry)) (callTemporary secret (calleesOf (now (callees .entry))) f) ⌝ }
+// The temporary of a call of procedure f in a secret context.
+fn type_result(
+    image: &[u32],
+    table: &[u32; SIZE],
+    out: &mut [u32],
+    o: usize,
+    f: u32,
+    secret: bool,
+) -> usize
+    requires { ⌜ Listed (now image) (now table) f ⌝ }
+    ensures { λ r. ⌜ (r, now (out .exit)) ≡ writes o (now (out .entry)) (callTemporary secret (proceduresIn (now (image .entry))) f) ⌝ }
 {
     if secret {
-        let i = f as usize;
-        let s = callees[i] % 2;
-        return tape::put(out, o, 1073741825 + 2 * s);
+        let sort = type_sort(result_type(image, table, f));
+        return put(out, o, secret_of(sort));
     }
     o
 }
 
 // A statement.
-pub fn type_statement(
+fn type_statement(
     image: &[u32],
+    table: &[u32; SIZE],
     types: &[u32],
-    arrays: &[u32],
-    params: &[u32],
-    callees: &[u32],
     out: &mut [u32],
-    at: usize,
-    o: usize,
-    pc: bool,
-    rc: bool,
-    me: u32,
+    scope: Scope,
+    cursor: Typed,
     level: u32,
 ) -> Typed
-    requires { ⌜ FineStatement level (now params) me (now image) at × (me ≤ length (now callees)) ⌝ }
-    ensures { λ r. ⌜ (r, now (out .exit)) ≡ typed (now (callees .entry)) (now (arrays .entry)) (now (types .entry)) pc rc o (now (out .entry)) (readStatement level (now (params .entry)) me (now (image .entry)) at) ⌝ }
+    requires { ⌜ StatementRead level (paramsIn (now table)) (scope .me) (now image) (cursor .at) × Listed (now image) (now table) (scope .me) ⌝ }
+    ensures { λ r. ⌜ (r, now (out .exit)) ≡ typed (proceduresIn (now (image .entry))) (arraysIn (now (table .entry))) (now (types .entry)) scope cursor
+        (now (out .entry)) (readStatement level (paramsIn (now (table .entry))) (scope .me) (now (image .entry)) (cursor .at)) ⌝ }
 {
+    let at = cursor.at;
     let w = image[at];
-    let op = w % 268435456 / 65536;
-    if op == 2 {
-        return type_if(
-            image,
-            types,
-            arrays,
-            params,
-            callees,
-            out,
-            at,
-            o,
-            pc,
-            rc,
-            me,
-            level,
-        );
+    let op = image_words::op(w);
+    if op == ops::IF {
+        return type_if(image, table, types, out, scope, cursor, level);
     }
-    if op == 3 {
-        return type_for(
-            image,
-            types,
-            arrays,
-            params,
-            callees,
-            out,
-            at,
-            o,
-            pc,
-            rc,
-            me,
-            level,
-        );
+    if op == ops::FOR {
+        return type_for(image, table, types, out, scope, cursor, level);
     }
-    let s = contexts::rc_statement(image, types, arrays, params, at, pc, rc, me, level);
-    if op == 5 {
-        let p = type_result(callees, out, o, w % 65536 / 256, pc | rc);
+    let before = Context {
+        pc: scope.pc,
+        rc: cursor.rc,
+    };
+    let s = rc_statement(image, table, types, scope.me, before, at, level);
+    if op == ops::CALL {
+        let p = type_result(image, table, out, cursor.o, called(w), scope.pc | cursor.rc);
         return Typed {
             at: s.next,
             o: p,
@@ -104,63 +106,44 @@ pub fn type_statement(
     }
     Typed {
         at: s.next,
-        o: o,
+        o: cursor.o,
         rc: s.rc,
     }
 }
 
 // An if: T and E where it is secret, then those of its arms.
-pub fn type_if(
+fn type_if(
     image: &[u32],
+    table: &[u32; SIZE],
     types: &[u32],
-    arrays: &[u32],
-    params: &[u32],
-    callees: &[u32],
     out: &mut [u32],
-    at: usize,
-    o: usize,
-    pc: bool,
-    rc: bool,
-    me: u32,
+    scope: Scope,
+    cursor: Typed,
     level: u32,
 ) -> Typed
-    requires { ⌜ FineStatement level (now params) me (now image) at × (opOf (getD (now image) at 0) ≡ 2) × (me ≤ length (now callees)) ⌝ }
-    ensures { λ r. ⌜ (r, now (out .exit)) ≡ typed (now (callees .entry)) (now (arrays .entry)) (now (types .entry)) pc rc o (now (out .entry)) (readStatement level (now (params .entry)) me (now (image .entry)) at) ⌝ }
+    requires { ⌜ StatementRead level (paramsIn (now table)) (scope .me) (now image) (cursor .at) × Listed (now image) (now table) (scope .me)
+        × (opOf (getD (now image) (cursor .at) 0) ≡ 2) ⌝ }
+    ensures { λ r. ⌜ (r, now (out .exit)) ≡ typed (proceduresIn (now (image .entry))) (arraysIn (now (table .entry))) (now (types .entry)) scope cursor
+        (now (out .entry)) (readStatement level (paramsIn (now (table .entry))) (scope .me) (now (image .entry)) (cursor .at)) ⌝ }
 {
-    let c = contexts::secret_expression(image, types, arrays, at + 1, level - 1);
-    let n = c.next;
-    let s = c.secret;
-    let p = type_arms(out, o, s);
-    let x = type_block(
-        image,
-        types,
-        arrays,
-        params,
-        callees,
-        out,
-        n,
-        p,
-        pc | s,
-        rc,
-        me,
-        level - 1,
-    );
-    let m = x.at;
-    let q = x.o;
-    let y = type_block(
-        image,
-        types,
-        arrays,
-        params,
-        callees,
-        out,
-        m,
-        q,
-        pc | s,
-        rc,
-        me,
-        level - 1,
-    );
+    let c = secret_expression(image, table, types, cursor.at + 1, level - 1);
+    let p = type_arms(out, cursor.o, c.secret);
+    let arm = Scope {
+        me: scope.me,
+        pc: scope.pc | c.secret,
+    };
+    let behind = Typed {
+        at: c.next,
+        o: p,
+        rc: cursor.rc,
+    };
+    let x = type_block(image, table, types, out, arm, behind, level - 1);
+    let between = Typed {
+        at: x.at,
+        o: x.o,
+        rc: cursor.rc,
+    };
+    let y = type_block(image, table, types, out, arm, between, level - 1);
     Typed {
         at: y.at,
         o: y.o,
@@ -169,91 +152,63 @@ pub fn type_if(
 }
 
 // A for: its body begins with the rc that it ends with when begun from the rc before it.
-pub fn type_for(
+fn type_for(
     image: &[u32],
+    table: &[u32; SIZE],
     types: &[u32],
-    arrays: &[u32],
-    params: &[u32],
-    callees: &[u32],
     out: &mut [u32],
-    at: usize,
-    o: usize,
-    pc: bool,
-    rc: bool,
-    me: u32,
+    scope: Scope,
+    cursor: Typed,
     level: u32,
 ) -> Typed
-    requires { ⌜ FineStatement level (now params) me (now image) at × (opOf (getD (now image) at 0) ≡ 3) × (me ≤ length (now callees)) ⌝ }
-    ensures { λ r. ⌜ (r, now (out .exit)) ≡ typed (now (callees .entry)) (now (arrays .entry)) (now (types .entry)) pc rc o (now (out .entry)) (readStatement level (now (params .entry)) me (now (image .entry)) at) ⌝ }
+    requires { ⌜ StatementRead level (paramsIn (now table)) (scope .me) (now image) (cursor .at) × Listed (now image) (now table) (scope .me)
+        × (opOf (getD (now image) (cursor .at) 0) ≡ 3) ⌝ }
+    ensures { λ r. ⌜ (r, now (out .exit)) ≡ typed (proceduresIn (now (image .entry))) (arraysIn (now (table .entry))) (now (types .entry)) scope cursor
+        (now (out .entry)) (readStatement level (paramsIn (now (table .entry))) (scope .me) (now (image .entry)) (cursor .at)) ⌝ }
 {
-    let b = contexts::secret_two(image, types, arrays, at + 1, level - 1);
-    let n = b.next;
-    let s = contexts::rc_block(image, types, arrays, params, n, pc, rc, me, level - 1);
-    let e = s.rc;
-    let x = type_block(
-        image,
-        types,
-        arrays,
-        params,
-        callees,
-        out,
-        n,
-        o,
-        pc,
-        e,
-        me,
-        level - 1,
-    );
+    let n = skip(image, cursor.at + 1, 2);
+    let before = Context {
+        pc: scope.pc,
+        rc: cursor.rc,
+    };
+    let s = rc_block(image, table, types, scope.me, before, n, level - 1);
+    let behind = Typed {
+        at: n,
+        o: cursor.o,
+        rc: s.rc,
+    };
+    let x = type_block(image, table, types, out, scope, behind, level - 1);
     Typed {
         at: x.at,
         o: x.o,
-        rc: e,
+        rc: s.rc,
     }
 }
 
 // The statements of a block.
 pub fn type_block(
     image: &[u32],
+    table: &[u32; SIZE],
     types: &[u32],
-    arrays: &[u32],
-    params: &[u32],
-    callees: &[u32],
     out: &mut [u32],
-    at: usize,
-    o: usize,
-    pc: bool,
-    rc: bool,
-    me: u32,
+    scope: Scope,
+    cursor: Typed,
     level: u32,
 ) -> Typed
-    requires { ⌜ FineBlock level (now params) me (now image) at × (me ≤ length (now callees)) ⌝ }
-    ensures { λ r. ⌜ (r, now (out .exit)) ≡ typedBlock (now (callees .entry)) (now (arrays .entry)) (now (types .entry)) pc rc o (now (out .entry)) (readBlock level (now (params .entry)) me (now (image .entry)) at) ⌝ }
+    requires { ⌜ BlockRead level (paramsIn (now table)) (scope .me) (now image) (cursor .at) × Listed (now image) (now table) (scope .me) ⌝ }
+    ensures { λ r. ⌜ (r, now (out .exit)) ≡ typedBlock (proceduresIn (now (image .entry))) (arraysIn (now (table .entry))) (now (types .entry)) scope cursor
+        (now (out .entry)) (readBlock level (paramsIn (now (table .entry))) (scope .me) (now (image .entry)) (cursor .at)) ⌝ }
 {
-    let count = image[at] % 268435456;
+    let at = cursor.at;
+    let count = payload(image[at]);
     let mut j = 0;
     let mut c = Typed {
         at: at + 1,
-        o: o,
-        rc: rc,
+        o: cursor.o,
+        rc: cursor.rc,
     };
     while j < count {
-        let a = c.at;
-        let p = c.o;
-        let r = c.rc;
-        c = type_statement(
-            image,
-            types,
-            arrays,
-            params,
-            callees,
-            out,
-            a,
-            p,
-            pc,
-            r,
-            me,
-            level - 1,
-        );
+        c = type_statement(image, table, types, out, scope, c, level - 1);
         j += 1;
     }
     c

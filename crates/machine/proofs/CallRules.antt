@@ -3,27 +3,23 @@ use mathlib.Core.Path.{_≡_, refl, sym, ap, _∙_}
 use mathlib.Core.List.{List, [], _∷_}
 use Prim.Native.Nat.{ℕ, suc, _+_, _-_, _/_, _≤_, _<_}
 use native.Mathlib.Omega.{arith}
-use lib.ListN.{length, getD, take, drop, replicate, length-drop}
-use lib.Seq.{take-all, getD-drop}
+use lib.ListN.{length, getD, take, drop}
 use Rattle.definitions.specs.Bytes.{wordsOf}
-use Rattle.definitions.specs.Image.{Image, procedureAt}
+use Rattle.definitions.specs.Image.{proceduresOf, Image}
 use Rattle.definitions.specs.Running.{frame}
-use Rattle.definitions.specs.Requests.{answered, argumentValues, calledOn}
+use Rattle.definitions.specs.Requests.{argumentValues, calledOn}
 use Rattle.definitions.specs.declared.Answer.the-variants.{Refused}
-use Rattle.reader.specs.TableLaws.{table-parameters}
 use Rattle.laws.specs.ImageIn.{imageIn}
+use Rattle.tables.specs.Table.{placeIn, bodyIn, paramsIn, padded}
+use Rattle.tables.specs.Looking.{Listed, procedureIn, count-is, known-arity, known-limits, known-part, known-within, body-place, form-small}
+use Rattle.runner.specs.Runs.{Ready, nine}
+use Rattle.runner.specs.Callees.{nine-padded}
 use Rattle.words.proofs.Laws.{length-wordsOf}
 use Rattle.machine.specs.declared.Machine.{Machine}
 use Rattle.machine.specs.declared.Turn.{Turn}
 use Rattle.machine.specs.Turns.{held}
-use Rattle.machine.specs.Serving.{Serves, Signed, ranOn, TurnedCall}
-use Rattle.machine.specs.Lookups.{signed, parameters-among}
+use Rattle.machine.specs.Serving.{Serves, ranOn, TurnedCall}
 use Rattle.machine.proofs.TurnRules.{no-procedure, wrong-count, called-runs, ran-framed}
-
--- ---- the procedure's words
-
-pub entry-is : (table : List ℕ) (f i w r : ℕ) → i ≡ f → w ≡ getD table i 0 → r ≡ w → r ≡ getD table f 0
-entry-is table f i w r a b c = c ∙ b ∙ ap (λ (k : ℕ). getD table k 0) a
 
 length-values : (types vs : List ℕ) → length (argumentValues types vs) ≡ length vs
 unfolding argumentValues
@@ -31,89 +27,85 @@ length-values types [] = refl
 length-values [] (v ∷ vs) = refl
 length-values (w ∷ ws) (v ∷ vs) = ap suc (length-values ws vs)
 
--- only the type words of the arguments count
-values-agree : (vs types us : List ℕ) → length vs ≤ length types → length vs ≤ length us
-    → ((i : ℕ) → i < length vs → getD us i 0 ≡ getD types i 0) → argumentValues us vs ≡ argumentValues types vs
-unfolding argumentValues
-values-agree [] types us h k same = refl
-values-agree (v ∷ vs) [] us h k same = absurd (omega arith)
-values-agree (v ∷ vs) (t ∷ types) [] h k same = absurd (omega arith)
-values-agree (v ∷ vs) (t ∷ types) (u ∷ us) h k same =
-    let first : u ≡ t = same 0 (omega arith) in
-    let rest = values-agree vs types us (omega arith) (omega arith) (λ i b. same (suc i) (omega arith)) in
-    ap (λ (w : ℕ). answered w v ∷ argumentValues us vs) first ∙ ap (λ (ws : List ℕ). answered t v ∷ ws) rest
+-- ---- the values
 
-module _ (image places : List ℕ) (f : ℕ) (s : Signed image places f) (place : ℕ) (e : place ≡ getD places f 0) where
-  pub result-is : (r : ℕ) → r ≡ getD image (place + 1) 0 → r ≡ procedureAt (imageIn image .procedures) f .result
-  result-is r q = q ∙ ap (λ (k : ℕ). getD image (k + 1) 0) e ∙ sym (s .result)
+module _ (image table : List ℕ) (f : ℕ) (k : Listed image table f) (arguments : List ℕ) (e : length arguments / 4 ≡ getD (paramsIn table) f 0) where
+  few : (length arguments / 4 ≤ 9) × (length arguments / 4 ≤ length (procedureIn image f .types))
+  few =
+      let a = known-arity image table (k .known) f (k .number) in
+      let (m, most, among, all) = known-limits image table (k .known) f (k .number) in
+      let form = form-small image table (k .known) in
+      (omega arith, omega arith)
 
-  pub types-begin : place + 1 + 1 ≤ length image
-  types-begin = omega (arith, s .within)
+  pub values-few : length (argumentValues (procedureIn image f .types) (wordsOf arguments)) ≤ 9
+  values-few = let n = length-wordsOf arguments in let (a, b) = few in rw length-values (omega arith)
 
-  behind-is : take (length image - (place + 1 + 1)) (drop (place + 1 + 1) image) ≡ drop (place + 1 + 1) image
-  behind-is = take-all (length image - (place + 1 + 1)) (drop (place + 1 + 1) image) (simp length-drop (omega arith))
+  -- the type words are the part of the image behind the procedure's word
+  module _ (place body : ℕ) (hp : place ≡ placeIn table f) (hb : body ≡ bodyIn table f) where
+    pub types-within : (place + 1 + 1 ≤ body) × (body ≤ length image)
+    types-within =
+        let b = body-place image table (k .known) f (k .number) in
+        let w = known-within image table (k .known) f (k .number) in
+        (omega arith, omega arith)
 
-  module _ (arguments : List ℕ) (few : length arguments / 4 ≤ length (procedureAt (imageIn image .procedures) f .types)) where
-    pub values-ask : (zeros : List ℕ) → zeros ≡ replicate 255 0
-        → (length arguments / 4 ≤ length (take (length image - (place + 1 + 1)) (drop (place + 1 + 1) image))) × (length arguments / 4 ≤ 255)
-        × (zeros ≡ replicate 255 0)
-    values-ask zeros z = (rw (behind-is, length-drop) (omega (arith, s .within)), omega (arith, s .few), z)
+    types-are : take (body - (place + 1 + 1)) (drop (place + 1 + 1) image) ≡ procedureIn image f .types
+    types-are =
+        let b = body-place image table (k .known) f (k .number) in
+        rw hp (known-part image table (k .known) f (k .number) (body - (placeIn table f + 1 + 1)) (omega arith))
 
-    pub values-are : (after : List ℕ)
-        → after ≡ frame (argumentValues (take (length image - (place + 1 + 1)) (drop (place + 1 + 1) image)) (wordsOf arguments))
-        → after ≡ frame (argumentValues (procedureAt (imageIn image .procedures) f .types) (wordsOf arguments))
-    values-are after q =
-        let n : length (wordsOf arguments) ≡ length arguments / 4 = length-wordsOf arguments in
-        q ∙ ap (λ (us : List ℕ). frame (argumentValues us (wordsOf arguments))) behind-is
-        ∙ ap frame (values-agree (wordsOf arguments) (procedureAt (imageIn image .procedures) f .types) (drop (place + 1 + 1) image)
-        (omega arith) (rw length-drop (omega (arith, s .within)))
-        (λ i b. getD-drop (place + 1 + 1) image i 0 ∙ ap (λ (k : ℕ). getD image (k + 1 + 1 + i) 0) e ∙ sym (s .type i (omega arith))))
+    pub types-enough : length arguments / 4 ≤ length (take (body - (place + 1 + 1)) (drop (place + 1 + 1) image))
+    types-enough = let (a, b) = few in rw types-are b
+
+    pub arguments-few : length arguments / 4 ≤ 9
+    arguments-few = few .0
+
+    pub filled : (values : List ℕ) → values ≡ padded 9 (argumentValues (take (body - (place + 1 + 1)) (drop (place + 1 + 1) image)) (wordsOf arguments))
+        → values ≡ padded 9 (argumentValues (procedureIn image f .types) (wordsOf arguments))
+    filled values q = q ∙ ap (λ (ts : List ℕ). padded 9 (argumentValues ts (wordsOf arguments))) types-are
 
 -- ---- the run
 
-pub run-given : (m : Machine) (r : Turn) (before after : List ℕ) (tree : Image) (f : ℕ) (types ws given : List ℕ) (budget room : ℕ)
-    → given ≡ frame (argumentValues types ws) → length ws ≤ 255 → TurnedCall m r before after (ranOn tree (held m) f given budget room)
-    → TurnedCall m r before after (ranOn tree (held m) f (argumentValues types ws) budget room)
-run-given m r before after tree f types ws given budget room e h t =
-    rw (← (ran-framed tree (held m) f (argumentValues types ws) budget room (rw length-values h)), ← e) t
+pub run-ready : (image table ends : List ℕ) (f count : ℕ) → Serves image table ends count → Listed image table f → Ready image table ends f
+run-ready image table ends f count s k = record { listed = k; blockEnds = s .blockEnds }
 
-module _ (m : Machine) (image params places ends : List ℕ) (s : Serves image params places ends (m .count)) (f : ℕ) (arguments : List ℕ) where
-  pub values-fit : f < length (imageIn image .procedures) → length arguments / 4 ≡ getD params f 0
-      → length arguments / 4 ≤ length (procedureAt (imageIn image .procedures) f .types)
-  values-fit h e = omega (arith, parameters-among image params places ends f (m .count) s h)
+pub run-given : (m : Machine) (r : Turn) (before after : List ℕ) (tree : Image) (f : ℕ) (ws values : List ℕ) (budget room : ℕ)
+    → values ≡ padded 9 ws → length ws ≤ 9 → TurnedCall m r before after (ranOn tree (held m) f (nine values) budget room)
+    → TurnedCall m r before after (ranOn tree (held m) f ws budget room)
+run-given m r before after tree f ws values budget room e h t =
+    rw (← (ran-framed tree (held m) f (nine values) ws budget room (ap (λ (x : List ℕ). frame (nine x)) e ∙ nine-padded ws h))) t
 
-  pub words-few : f < length (imageIn image .procedures) → length arguments / 4 ≡ getD params f 0 → length (wordsOf arguments) ≤ 255
-  words-few h e = omega (arith, values-fit h e, signed image params places ends f (m .count) s h .few, length-wordsOf arguments)
+-- ---- the call
 
-  -- ---- the call
+module _ (m : Machine) (image table ends : List ℕ) (s : Serves image table ends (m .count)) (f : ℕ) (arguments : List ℕ)
+    (count : ℕ) (c : count ≡ proceduresOf (getD image 0 0)) where
+  pub call-listed : f < count → Listed image table f
+  call-listed h = let n = count-is image table (s .known) in record { known = s .known; number = omega arith }
 
-  module _ (count : ℕ) (c : count ≡ length (imageIn image .procedures)) (budget : ℕ) (before : List ℕ) where
+  module _ (budget : ℕ) (before : List ℕ) where
     pub call-none : count ≤ f
         → TurnedCall m (record { machine = m; answer = Refused 17 0 }) before before
         (calledOn (imageIn image) (held m) f (wordsOf arguments) budget (length (wordsOf before)))
-    call-none h = no-procedure m (imageIn image) f (wordsOf arguments) budget (length (wordsOf before)) before (omega arith)
+    call-none h =
+        let n = count-is image table (s .known) in
+        no-procedure m (imageIn image) f (wordsOf arguments) budget (length (wordsOf before)) before (omega arith)
 
-    module _ (h : f < count) (n : ℕ) (e : n ≡ getD params f 0) where
-      same-count : n ≡ procedureAt (imageIn image .procedures) f .parameters
-      same-count = e ∙ table-parameters image (imageIn image) params places ends (s .tables) f (omega arith)
+    module _ (h : f < count) (p n : ℕ) (ep : p ≡ getD (paramsIn table) f 0) (en : n ≡ p) where
+      same-count : n ≡ procedureIn image f .parameters
+      same-count = en ∙ ep ∙ known-arity image table (s .known) f (call-listed h .number)
 
       pub call-count : (length arguments / 4 ≡ n → ⊥)
           → TurnedCall m (record { machine = m; answer = Refused 18 0 }) before before
           (calledOn (imageIn image) (held m) f (wordsOf arguments) budget (length (wordsOf before)))
       call-count g =
-          wrong-count m (imageIn image) f (wordsOf arguments) budget (length (wordsOf before)) before (omega arith)
+          wrong-count m (imageIn image) f (wordsOf arguments) budget (length (wordsOf before)) before (call-listed h .number)
           (λ q. g (sym (length-wordsOf arguments) ∙ q ∙ sym same-count))
 
-      pub call-asks : length arguments / 4 ≡ n → (f < length (imageIn image .procedures)) × (length arguments / 4 ≡ getD params f 0)
-      call-asks g = (omega arith, g ∙ e)
-
       pub call-ran : length arguments / 4 ≡ n → (r : Turn) (after : List ℕ)
-          → TurnedCall m r before after
-          (ranOn (imageIn image) (held m) f (argumentValues (procedureAt (imageIn image .procedures) f .types) (wordsOf arguments)) budget (length before / 4))
+          → TurnedCall m r before after (ranOn (imageIn image) (held m) f (argumentValues (procedureIn image f .types) (wordsOf arguments)) budget (length before / 4))
           → TurnedCall m r before after (calledOn (imageIn image) (held m) f (wordsOf arguments) budget (length (wordsOf before)))
       call-ran g r after t =
           rw (
-            called-runs (imageIn image) (held m) f (wordsOf arguments) budget (length (wordsOf before)) (omega arith)
+            called-runs (imageIn image) (held m) f (wordsOf arguments) budget (length (wordsOf before)) (call-listed h .number)
                 (length-wordsOf arguments ∙ g ∙ same-count),
             length-wordsOf before,
           ) t

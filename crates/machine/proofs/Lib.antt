@@ -1,4 +1,3 @@
 pub mod TurnRules
-pub mod TableRules
 pub mod CallRules
 pub mod MachineRules

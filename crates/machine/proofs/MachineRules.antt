@@ -7,10 +7,11 @@ use lib.ListN.{getD, set, take, replicate, length-replicate, replicate-append-re
 use lib.Seq.{take-at, take-set-lt, getD-take}
 use Rattle.definitions.specs.Image.{baseOf}
 use Rattle.definitions.specs.declared.Answer.the-variants.{Done, Refused}
+use Rattle.tables.specs.Table.{arraysIn}
 use Rattle.requests.specs.declared.cells.Slot.{Slot}
 use Rattle.requests.specs.declared.cells.Slot.the-variants.{At, Nothing}
-use Rattle.requests.specs.Cells.{slotOf}
-use Rattle.requests.specs.OwnCells.{Fits, clearOn, pokeOn, peekOn}
+use Rattle.requests.specs.Cells.{slotIn, Fits}
+use Rattle.requests.specs.OwnCells.{clearOn, pokeOn, peekOn}
 use Rattle.requests.proofs.CellRules.{slot-at, slot-nothing, cell-within}
 use Rattle.machine.specs.declared.Machine.{Machine}
 use Rattle.machine.specs.Turns.{held, Turned}
@@ -26,32 +27,32 @@ pub cleared : (m : Machine) → m .count ≤ 1024
 unfolding clearOn
 cleared m h = record { gives = rw (take-zeros (m .count) 1024 h); same = refl }
 
-module _ (m : Machine) (arrays : List ℕ) (a i : ℕ) (fits : Fits arrays (m .count)) (s : Slot) (e : s ≡ slotOf arrays a i) where
-  pub no-poke : (v : ℕ) → s ≡ Nothing → Turned m (record { machine = m; answer = Refused 17 0 }) (pokeOn arrays (held m) a i v)
+module _ (m : Machine) (table : List ℕ) (a i : ℕ) (fits : Fits table (m .count)) (s : Slot) (e : s ≡ slotIn table a i) where
+  pub no-poke : (v : ℕ) → s ≡ Nothing → Turned m (record { machine = m; answer = Refused 17 0 }) (pokeOn (arraysIn table) (held m) a i v)
   unfolding pokeOn
-  no-poke v n = record { gives = rw (slot-nothing arrays a i s e n); same = refl }
+  no-poke v n = record { gives = rw (slot-nothing table a i (m .count) fits s e n); same = refl }
 
-  pub no-peek : s ≡ Nothing → Turned m (record { machine = m; answer = Refused 17 0 }) (peekOn arrays (held m) a i)
+  pub no-peek : s ≡ Nothing → Turned m (record { machine = m; answer = Refused 17 0 }) (peekOn (arraysIn table) (held m) a i)
   unfolding peekOn
-  no-peek n = record { gives = rw (slot-nothing arrays a i s e n); same = refl }
+  no-peek n = record { gives = rw (slot-nothing table a i (m .count) fits s e n); same = refl }
 
   module _ (n : ℕ) (f : s ≡ At n) where
     pub slot-below : n < m .count
-    slot-below = let (t, q) = slot-at arrays a i s n e f in omega (arith, cell-within arrays a i t, fits .all)
+    slot-below = let (t, q) = slot-at table a i (m .count) fits s e n f in omega (arith, cell-within (arraysIn table) a i t, fits .all)
 
     pub slot-small : n < 1024
     slot-small = omega (arith, slot-below, fits .all, fits .most)
 
     pub poked : (v : ℕ)
-        → Turned m (record { machine = record { cells = set (m .cells) n v; count = m .count }; answer = Done 0 0 0 }) (pokeOn arrays (held m) a i v)
+        → Turned m (record { machine = record { cells = set (m .cells) n v; count = m .count }; answer = Done 0 0 0 }) (pokeOn (arraysIn table) (held m) a i v)
     unfolding pokeOn
     poked v =
-        let (t, q) = slot-at arrays a i s n e f in
+        let (t, q) = slot-at table a i (m .count) fits s e n f in
         record { gives = rw (t, take-set-lt (m .count) (m .cells) n v slot-below, q); same = refl }
 
-    pub peeked : (v : ℕ) → v ≡ getD (m .cells) n 0 → Turned m (record { machine = m; answer = Done v 0 0 }) (peekOn arrays (held m) a i)
+    pub peeked : (v : ℕ) → v ≡ getD (m .cells) n 0 → Turned m (record { machine = m; answer = Done v 0 0 }) (peekOn (arraysIn table) (held m) a i)
     unfolding peekOn
     peeked v r =
-        let (t, q) = slot-at arrays a i s n e f in
-        let w : v ≡ getD (held m) (baseOf arrays a + i) 0 = r ∙ sym (getD-take (m .count) (m .cells) n 0 slot-below) ∙ ap (λ (k : ℕ). getD (held m) k 0) q in
+        let (t, q) = slot-at table a i (m .count) fits s e n f in
+        let w : v ≡ getD (held m) (baseOf (arraysIn table) a + i) 0 = r ∙ sym (getD-take (m .count) (m .cells) n 0 slot-below) ∙ ap (λ (k : ℕ). getD (held m) k 0) q in
         record { gives = rw (t, w); same = refl }

@@ -13,10 +13,11 @@ use Rattle.definitions.specs.Bytes.{bytesOf, lent}
 use Rattle.definitions.specs.Image.{cellCount, Image, Procedure, procedureAt}
 use Rattle.definitions.specs.Running.{Trace, traceWords, Ran, andGo, Given, runBlock, frame, finish, runProcedure}
 use Rattle.definitions.specs.Requests.{answered, argumentValues, ended, calledOn}
-use Rattle.definitions.specs.declared.Answer.{Answer}
 use Rattle.definitions.specs.declared.Answer.the-variants.{Done, Stopped, Refused}
 use Rattle.requests.specs.SpareRuns.{Both, both-on, both-halt, WideGiven, wide-gave, procedure-spare}
-use Rattle.execution.specs.Executions.{answeredRun, executed}
+use Rattle.runner.specs.declared.procedures.Execution.{Execution}
+use Rattle.runner.specs.declared.procedures.Execution.the-variants.{Done as Ended, Stopped as Halted}
+use Rattle.runner.specs.Executions.{told, executed}
 use Rattle.machine.specs.declared.Machine.{Machine}
 use Rattle.machine.specs.Turns.{held}
 use Rattle.machine.specs.Serving.{ranOn, TurnedCall}
@@ -48,19 +49,6 @@ unfolding calledOn ranOn
 called-runs tree cells f ws budget room h g =
     rw (lt-ltb f (length (tree .procedures)) h, eq-eqb (length ws) (procedureAt (tree .procedures) f .parameters) g)
 
--- ---- a frame that is handed on as arguments
-
-frame-long : (ws : List ℕ) → length ws ≤ 255 → length (frame ws) ≡ 255
-unfolding frame
-frame-long ws h = simp (length-append, length-replicate) (omega arith)
-
-frame-whole : (ws : List ℕ) → length ws ≡ 255 → frame ws ≡ ws
-unfolding frame
-frame-whole ws e = rw e (append-nil ws)
-
-framed-twice : (ws : List ℕ) → length ws ≤ 255 → frame (frame ws) ≡ frame ws
-framed-twice ws h = frame-whole (frame ws) (frame-long ws h)
-
 -- only the frame of the arguments counts
 run-framed : {T : Type 0} (C : Trace T) (budget : ℕ) (arrays : List ℕ) (ps : List Procedure) (n f : ℕ) (us ws : List ℕ) (z : ℕ) (t : T) (cs : List ℕ)
     → frame us ≡ frame ws → runProcedure C budget arrays ps n f us z t cs ≡ runProcedure C budget arrays ps n f ws z t cs
@@ -83,21 +71,21 @@ run-framed {T} C budget arrays ps (suc n) f us ws z t cs e =
     go true r = refl
     go false r = r
 
-pub ran-framed : (tree : Image) (cells : List ℕ) (f : ℕ) (ws : List ℕ) (budget room : ℕ) → length ws ≤ 255
-    → ranOn tree cells f (frame ws) budget room ≡ ranOn tree cells f ws budget room
+pub ran-framed : (tree : Image) (cells : List ℕ) (f : ℕ) (us ws : List ℕ) (budget room : ℕ) → frame us ≡ frame ws
+    → ranOn tree cells f us budget room ≡ ranOn tree cells f ws budget room
 unfolding ranOn
-ran-framed tree cells f ws budget room h =
+ran-framed tree cells f us ws budget room h =
     ap (λ (x : Ran (List ℕ) Given). ended (procedureAt (tree .procedures) f) cells x)
-    (run-framed (traceWords room) budget (tree .arrays) (tree .procedures) (length (tree .procedures)) f (frame ws) ws 0 [] cells (framed-twice ws h))
+    (run-framed (traceWords room) budget (tree .arrays) (tree .procedures) (length (tree .procedures)) f us ws 0 [] cells h)
 
 -- ---- the run: the array has more words than the image has cells
 
 module _ (m : Machine) (p : Procedure) (arrays rest : List ℕ) (C : Trace (List ℕ)) (budget : ℕ) (e : m .count ≡ cellCount arrays)
-    (before after cells : List ℕ) (r : Answer) where
-  spare-done : (x y : Ran (List ℕ) Given) → Both (WideGiven C budget arrays rest) x y → answeredRun r cells after ≡ executed before y
-      → (v z u a : ℕ) → r ≡ Done v z u → a ≡ answered (p .result) v
+    (before after cells : List ℕ) (r : Execution) where
+  spare-done : (x y : Ran (List ℕ) Given) → Both (WideGiven C budget arrays rest) x y → told r cells after ≡ executed before y
+      → (v z u a : ℕ) → r ≡ Ended v z u → a ≡ answered (p .result) v
       → TurnedCall m (record { machine = record { cells = cells; count = m .count }; answer = Done a z u }) before after (ended p (held m) x)
-  unfolding ended answeredRun executed
+  unfolding ended told executed
   spare-done x y (both-on g k i t (wide-gave w cs l)) d v z u a s q =
       let d2 = rw s at d in
       let same : cells ≡ cs ++ rest = cc in
@@ -112,25 +100,17 @@ module _ (m : Machine) (p : Procedure) (arrays rest : List ℕ) (C : Trace (List
       }
   spare-done x y (both-halt n l i t) d v z u a s q = let d2 = rw s at d in absurd (let z : _≡_ {A = ℕ} 0 1 = cc in omega arith)
 
-  spare-stopped : (x y : Ran (List ℕ) Given) → Both (WideGiven C budget arrays rest) x y → answeredRun r cells after ≡ executed before y
-      → (n l z u : ℕ) → r ≡ Stopped n l z u
+  spare-stopped : (x y : Ran (List ℕ) Given) → Both (WideGiven C budget arrays rest) x y → told r cells after ≡ executed before y
+      → (n l z u : ℕ) → r ≡ Halted n l z u
       → TurnedCall m (record { machine = m; answer = Stopped n l z u }) before after (ended p (held m) x)
-  unfolding ended answeredRun executed
+  unfolding ended told executed
   spare-stopped x y (both-on g k i t (wide-gave w cs b)) d n l z u s = let d2 = rw s at d in absurd (let z : _≡_ {A = ℕ} 0 1 = cc in omega arith)
   spare-stopped x y (both-halt j q i t) d n l z u s =
       let d2 = rw s at d in record { answer = cc; cells = refl; trace = cc; same = refl }
 
-  spare-refused : (x y : Ran (List ℕ) Given) → Both (WideGiven C budget arrays rest) x y → answeredRun r cells after ≡ executed before y
-      → (n l : ℕ) → r ≡ Refused n l
-      → TurnedCall m (record { machine = m; answer = Stopped n l 0 0 }) before after (ended p (held m) x)
-  unfolding ended answeredRun executed
-  spare-refused x y (both-on g k i t (wide-gave w cs b)) d n l s = let d2 = rw s at d in absurd (let z : _≡_ {A = ℕ} 0 1 = cc in omega arith)
-  spare-refused x y (both-halt j q i t) d n l s =
-      let d2 = rw s at d in record { answer = cc; cells = refl; trace = cc; same = refl }
-
 module _ (m : Machine) (tree : Image) (f : ℕ) (values : List ℕ) (budget room : ℕ) (long : length (m .cells) ≡ 1024) (most : m .count ≤ 1024)
-    (all : m .count ≡ cellCount (tree .arrays)) (before after cells : List ℕ) (r : Answer)
-    (d : answeredRun r cells after
+    (all : m .count ≡ cellCount (tree .arrays)) (before after cells : List ℕ) (r : Execution)
+    (d : told r cells after
     ≡ executed before (runProcedure (traceWords room) budget (tree .arrays) (tree .procedures) (length (tree .procedures)) f values 0 [] (m .cells))) where
   held-long : length (held m) ≡ cellCount (tree .arrays)
   held-long = length-take-le (m .count) (m .cells) (omega arith) ∙ all
@@ -138,30 +118,22 @@ module _ (m : Machine) (tree : Image) (f : ℕ) (values : List ℕ) (budget room
   abbrev Run : List ℕ → Ran (List ℕ) Given
   Run cs = runProcedure (traceWords room) budget (tree .arrays) (tree .procedures) (length (tree .procedures)) f values 0 [] cs
 
-  with-spare : answeredRun r cells after ≡ executed before (Run (held m ++ drop (m .count) (m .cells)))
+  with-spare : told r cells after ≡ executed before (Run (held m ++ drop (m .count) (m .cells)))
   with-spare = d ∙ ap (λ (cs : List ℕ). executed before (Run cs)) (sym (take-append-drop (m .count) (m .cells)))
 
   both : Both (WideGiven (traceWords room) budget (tree .arrays) (drop (m .count) (m .cells))) (Run (held m)) (Run (held m ++ drop (m .count) (m .cells)))
   both = procedure-spare (traceWords room) budget (tree .arrays) (drop (m .count) (m .cells)) (tree .procedures) (length (tree .procedures)) f values 0 [] (held m) held-long
 
-  pub turn-done : (v z u a type : ℕ) → r ≡ Done v z u → type ≡ procedureAt (tree .procedures) f .result → a ≡ answered type v
+  pub turn-done : (v z u a type : ℕ) → r ≡ Ended v z u → type ≡ procedureAt (tree .procedures) f .result → a ≡ answered type v
       → TurnedCall m (record { machine = record { cells = cells; count = m .count }; answer = Done a z u }) before after (ranOn tree (held m) f values budget room)
   unfolding ranOn
   turn-done v z u a type s t q =
       spare-done m (procedureAt (tree .procedures) f) (tree .arrays) (drop (m .count) (m .cells)) (traceWords room) budget all before after cells r
       (Run (held m)) (Run (held m ++ drop (m .count) (m .cells))) both with-spare v z u a s (q ∙ ap (λ (n : ℕ). answered n v) t)
 
-  pub turn-stopped : (n l z u : ℕ) → r ≡ Stopped n l z u
+  pub turn-stopped : (n l z u : ℕ) → r ≡ Halted n l z u
       → TurnedCall m (record { machine = m; answer = Stopped n l z u }) before after (ranOn tree (held m) f values budget room)
   unfolding ranOn
   turn-stopped n l z u s =
       spare-stopped m (procedureAt (tree .procedures) f) (tree .arrays) (drop (m .count) (m .cells)) (traceWords room) budget all before after cells r
       (Run (held m)) (Run (held m ++ drop (m .count) (m .cells))) both with-spare n l z u s
-
-  -- a run refuses nothing; such an answer would name a stop without steps
-  pub turn-refused : (n l : ℕ) → r ≡ Refused n l
-      → TurnedCall m (record { machine = m; answer = Stopped n l 0 0 }) before after (ranOn tree (held m) f values budget room)
-  unfolding ranOn
-  turn-refused n l s =
-      spare-refused m (procedureAt (tree .procedures) f) (tree .arrays) (drop (m .count) (m .cells)) (traceWords room) budget all before after cells r
-      (Run (held m)) (Run (held m ++ drop (m .count) (m .cells))) both with-spare n l s

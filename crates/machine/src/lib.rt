@@ -1,25 +1,29 @@
 // The machine by value: each request takes it and hands it back beside the answer.
 ghost use mathlib.Core.Path.{_≡_};
 ghost use mathlib.Core.List.{_++_};
-ghost use Prim.Native.Nat.{_*_, _<_, _≤_};
+ghost use Prim.Native.Nat.{_*_, _≤_};
 ghost use lib.ListN.{length, take, drop};
 ghost use Rattle.definitions.specs.Bytes.{wordsOf, bytesOf};
 ghost use Rattle.definitions.specs.Requests.{calledOn};
 ghost use Rattle.laws.specs.ImageIn.{imageIn};
-ghost use Rattle.requests.specs.OwnCells.{Fits, clearOn, pokeOn, peekOn};
+ghost use Rattle.tables.specs.Table.{arraysIn};
+ghost use Rattle.requests.specs.Cells.{Fits};
+ghost use Rattle.requests.specs.OwnCells.{clearOn, pokeOn, peekOn};
 ghost use Rattle.machine.specs.Turns.{held, Turned};
 ghost use Rattle.machine.specs.Serving.{Serves, TurnedCall};
 use definitions::Answer;
+use evaluator::CELLS;
+use image_words::lists::wide;
+use image_words::procedures;
 use requests::cells::Slot;
 use requests::cells::find_cell;
+use tables::SIZE;
 
-pub mod tables; // what the runner looks up, from what reading the image left
-mod signature; // what a call finds of the procedure that it names
 mod runs; // the run of a call whose procedure and number of arguments were tested
 
 // The first `count` words are the cells of the image; those behind them mean nothing.
 pub struct Machine {
-    pub cells: [u32; 1024],
+    pub cells: [u32; CELLS],
     pub count: usize,
 }
 
@@ -35,7 +39,7 @@ impl Machine {
         requires { ⌜ (count ≤ 1024) × (4 * count ≤ length (now cells)) ⌝ }
         ensures { λ r. ⌜ (held r ≡ take count (wordsOf (now (cells .entry)))) × (r .count ≡ count) ⌝ }
     {
-        let mut first = [0u32; 1024];
+        let mut first = [0u32; CELLS];
         words::read_words(cells, &mut first, count);
         Machine {
             cells: first,
@@ -69,18 +73,18 @@ impl Machine {
         let count = self.count;
         Turn {
             machine: Machine {
-                cells: [0u32; 1024],
+                cells: [0u32; CELLS],
                 count,
             },
             answer: Answer::Done(0, 0, 0),
         }
     }
 
-    pub fn poke(self, arrays: &[u32], a: u32, i: u32, v: u32) -> Turn
-        requires { ⌜ Fits (now arrays) (self .count) ⌝ }
-        ensures { λ r. ⌜ Turned self r (pokeOn (now (arrays .entry)) (held self) a i v) ⌝ }
+    pub fn poke(self, table: &[u32; SIZE], a: u32, i: u32, v: u32) -> Turn
+        requires { ⌜ Fits (now table) (self .count) ⌝ }
+        ensures { λ r. ⌜ Turned self r (pokeOn (arraysIn (now (table .entry))) (held self) a i v) ⌝ }
     {
-        let s = find_cell(arrays, a, i);
+        let s = find_cell(table, a, i);
         let Slot::At(at) = s else {
             return Turn {
                 machine: self,
@@ -95,11 +99,11 @@ impl Machine {
         }
     }
 
-    pub fn peek(self, arrays: &[u32], a: u32, i: u32) -> Turn
-        requires { ⌜ Fits (now arrays) (self .count) ⌝ }
-        ensures { λ r. ⌜ Turned self r (peekOn (now (arrays .entry)) (held self) a i) ⌝ }
+    pub fn peek(self, table: &[u32; SIZE], a: u32, i: u32) -> Turn
+        requires { ⌜ Fits (now table) (self .count) ⌝ }
+        ensures { λ r. ⌜ Turned self r (peekOn (arraysIn (now (table .entry))) (held self) a i) ⌝ }
     {
-        let s = find_cell(arrays, a, i);
+        let s = find_cell(table, a, i);
         let Slot::At(at) = s else {
             return Turn {
                 machine: self,
@@ -117,39 +121,42 @@ impl Machine {
     pub fn call(
         self,
         image: &[u32],
-        params: &[u32; 32],
-        places: &[u32; 32],
+        table: &[u32; SIZE],
         ends: &[u32],
         f: u32,
         arguments: &[u8],
         budget: u32,
         trace: &mut [u8],
     ) -> Turn
-        requires { ⌜ Serves (now image) (now params) (now places) (now ends) (self .count) ⌝ }
-        ensures { λ r. ⌜ TurnedCall self r (now (trace .entry)) (now (trace .exit)) (calledOn (imageIn (now (image .entry))) (held self) f (wordsOf (now (arguments .entry))) budget (length (wordsOf (now (trace .entry))))) ⌝ }
+        requires { ⌜ Serves (now image) (now table) (now ends) (self .count) ⌝ }
+        ensures { λ r. ⌜ TurnedCall self r (now (trace .entry)) (now (trace .exit)) (calledOn (imageIn (now (image .entry))) (held self) f
+            (wordsOf (now (arguments .entry))) budget (length (wordsOf (now (trace .entry))))) ⌝ }
     {
-        if tables::procedure_count(image) <= f {
+        if procedures(image[0]) <= f {
             return Turn {
                 machine: self,
                 answer: Answer::Refused(17, 0),
             };
         }
-        if arguments.len() / 4 != signature::entry(params, f) {
+        if arguments.len() / 4 != wide(tables::parameters(table, f)) {
             return Turn {
                 machine: self,
                 answer: Answer::Refused(18, 0),
             };
         }
-        runs::run(
-            self,
-            image,
-            params,
-            places,
-            ends,
-            f,
-            arguments,
-            budget,
-            trace,
-        )
+        runs::run(self, image, table, ends, f, arguments, budget, trace)
+    }
+}
+
+impl Turn {
+    // The cells go back into the lent bytes; the answer is left.
+    pub fn give_back(self, cells: &mut [u8]) -> Answer
+        requires { ⌜ (self .machine .count ≤ 1024) × (4 * self .machine .count ≤ length (now cells)) ⌝ }
+        ensures { λ r. ⌜ (r ≡ self .answer) × (now (cells .exit) ≡ bytesOf (held (self .machine)) ++ drop (4 * self .machine .count) (now (cells .entry))) ⌝ }
+    {
+        let machine = self.machine;
+        let answer = self.answer;
+        machine.give_back(cells);
+        answer
     }
 }

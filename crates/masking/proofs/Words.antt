@@ -11,57 +11,40 @@ use Rattle.definitions.specs.Encoding.{statementsWords}
 use Rattle.definitions.specs.Compiling.{masked, under, compiledReturn, compiledCall}
 use Rattle.masking.specs.Forms.{prefix, oldVariable, oldCell, selectedWords}
 
-pub word-assign : (y : ℕ) → 1610612736 + y ≡ statementWordWith 0 y
-word-assign y = omega arith
-
-pub word-next : (k : ℕ) → 1610612737 + k ≡ statementWordWith 0 (k + 1)
-word-next k = omega arith
-
-pub word-store : (a : ℕ) → 1610678272 + a ≡ statementWordWith 1 a
-word-store a = omega arith
-
-pub word-call : (f x : ℕ) → 1610940416 + f * 256 + x ≡ statementWordWith 5 (f * 256 + x)
-word-call f x = omega arith
-
 pub assign-words : (c : Bool) (a e : Expression) (y : ℕ)
-    → statementWordWith 0 y ∷ ((prefix c 3758096384 a ++ expressionWords e) ++ oldVariable c y) ≡ statementWords (assign y (masked c a e (variable 0 y)))
+    → statementWordWith 0 y ∷ ((prefix c (wordWith 14 0) a ++ expressionWords e) ++ oldVariable c y) ≡ statementWords (assign y (masked c a e (variable 0 y)))
 unfolding prefix oldVariable masked statementWords expressionWords
-assign-words true a e y = ap (λ z. statementWordWith 0 y ∷ (3758096384 ∷ z)) (append-assoc (expressionWords a) (expressionWords e) _)
+assign-words true a e y = ap (λ z. statementWordWith 0 y ∷ (wordWith 14 0 ∷ z)) (append-assoc (expressionWords a) (expressionWords e) _)
 assign-words false a e y = ap (λ z. statementWordWith 0 y ∷ z) (append-nil (expressionWords e))
 
 pub store-words : (c : Bool) (a : ℕ) (i g e : Expression)
-    → (statementWordWith 1 a ∷ expressionWords i) ++ (prefix c 3758096384 g ++ expressionWords e) ++ oldCell c a i
+    → (statementWordWith 1 a ∷ expressionWords i) ++ (prefix c (wordWith 14 0) g ++ expressionWords e) ++ oldCell c a i
     ≡ statementWords (store a i (masked c g e (cell 0 a i)))
 unfolding prefix oldCell masked statementWords expressionWords
 store-words true a i g e =
     ap (λ z. statementWordWith 1 a ∷ z)
-    (append-assoc (expressionWords i) (3758096384 ∷ (expressionWords g ++ expressionWords e)) _
-    ∙ ap (λ z. expressionWords i ++ (3758096384 ∷ z)) (append-assoc (expressionWords g) (expressionWords e) _))
+    (append-assoc (expressionWords i) (wordWith 14 0 ∷ (expressionWords g ++ expressionWords e)) _
+    ∙ ap (λ z. expressionWords i ++ (wordWith 14 0 ∷ z)) (append-assoc (expressionWords g) (expressionWords e) _))
 store-words false a i g e = ap (λ z. statementWordWith 1 a ∷ z) (append-nil _)
 
 pub under-words : (c : Bool) (a e : Expression) (y : ℕ)
-    → statementWordWith 0 y ∷ (prefix c 3489660941 a ++ expressionWords e) ≡ statementWords (assign y (under c a e))
+    → statementWordWith 0 y ∷ (prefix c (wordWith 13 13) a ++ expressionWords e) ≡ statementWords (assign y (under c a e))
 unfolding prefix under statementWords expressionWords
 under-words true a e y = refl
 under-words false a e y = refl
 
-pub selected-words : (y : ℕ) (a e : Expression) (v : ℕ) → expressionWords e ≡ v ∷ []
-    → selectedWords y a v ≡ statementWords (assign y (select 0 a e (variable 0 y)))
-unfolding statementWords expressionWords
-selected-words y a e v h = rw h
-
 pub return-words : (c : Bool) (a e : Expression) (rv : ℕ) → c ≡ true
-    → statementWords (assign rv (masked c a e (variable 0 rv))) ++ selectedWords (rv + 1) a 2415919104 ≡ statementsWords (compiledReturn c a rv e)
+    → statementWords (assign rv (masked c a e (variable 0 rv))) ++ selectedWords (rv + 1) a (wordWith 9 0) ≡ statementsWords (compiledReturn c a rv e)
 unfolding masked compiledReturn statementWords expressionWords
 return-words true a e rv h = ap (λ z. statementWords (assign rv (select 0 a e (variable 0 rv))) ++ z) (sym (append-nil _))
 return-words false a e rv h = absurd (let z : _≡_ {A = ℕ} 0 1 = ap (λ (b : Bool). pick b 1 0) h in omega arith)
 
-pub plain-return-words : (c : Bool) (a e : Expression) (rv : ℕ) → c ≡ false → 1610874880 ∷ expressionWords e ≡ statementsWords (compiledReturn c a rv e)
+pub plain-return-words : (c : Bool) (a e : Expression) (rv : ℕ) → c ≡ false → statementWordWith 4 0 ∷ expressionWords e ≡ statementsWords (compiledReturn c a rv e)
 unfolding compiledReturn statementWords
 plain-return-words true a e rv h = absurd (let z : _≡_ {A = ℕ} 1 0 = ap (λ (b : Bool). pick b 1 0) h in omega arith)
 plain-return-words false a e rv h = sym (append-nil _)
 
-pub argument-words : (es fs : List Expression) → argumentWords (es ++ fs) ≡ argumentWords es ++ argumentWords fs
+argument-words : (es fs : List Expression) → argumentWords (es ++ fs) ≡ argumentWords es ++ argumentWords fs
 unfolding flatMap argumentWords
 argument-words [] fs = refl
 argument-words (e ∷ es) fs = ap (λ z. expressionWords e ++ z) (argument-words es fs) ∙ sym (append-assoc (expressionWords e) (argumentWords es) (argumentWords fs))

@@ -4,10 +4,15 @@ ghost use Prim.Native.Nat.{_<_};
 ghost use Rattle.definitions.specs.Arithmetic as arithmetic;
 ghost use Rattle.definitions.specs.Operators.{operator, applyBinary, applyUnary};
 
+// Operators whose operands are recorded.
+pub const OP_QUOTIENT: u32 = 9;
+
+pub const OP_REMAINDER: u32 = 10;
+
 // Sorts. A boolean is a word too, 0 for false and 1 for true.
 const WORD: u32 = 0;
 
-const BOOLEAN: u32 = 1;
+pub const BOOLEAN: u32 = 1;
 
 // Which operands have to be public: none, a count on the right, both sides of a division.
 const NEITHER: u32 = 0;
@@ -122,7 +127,7 @@ fn less(a: u32, b: u32) -> u32
     0
 }
 
-fn truth(a: u32) -> u32
+pub fn truth(a: u32) -> u32
     ensures { λ r. ⌜ r ≡ arithmetic.truth a ⌝ }
 {
     if a == 0 {

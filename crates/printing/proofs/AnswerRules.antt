@@ -10,7 +10,7 @@ use Rattle.definitions.specs.Bytes.{wordsOf}
 use Rattle.definitions.specs.Host.{compileBytes}
 use Rattle.definitions.specs.declared.Compiled.{Compiled}
 use Rattle.definitions.specs.declared.Compiled.the-variants.{Written, Refused}
-use Rattle.translation.specs.Counts.{countOf, Output, compile-count}
+use Rattle.lent_images.specs.Counts.{countOf, Output, compile-count}
 use Rattle.printing.specs.Text.{listing, decimalText, refusalLine, answerText, printed}
 
 -- the two numbers with what stands behind each

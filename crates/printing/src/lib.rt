@@ -6,7 +6,7 @@ ghost use Prim.Native.Nat.{_+_, _*_, _<_, _≤_};
 ghost use lib.ListN.{length, getD, take};
 ghost use lib.Seq.{paste};
 ghost use Rattle.definitions.specs.Bytes.{wordsOf};
-ghost use Rattle.translation.specs.Counts.{countOf};
+ghost use Rattle.lent_images.specs.Counts.{countOf};
 ghost use Rattle.printing.specs.Text.{hexDigit, wordLine, listing, decimalText, refusalLine, answerText, printed};
 
 // The character of a hexadecimal digit.
@@ -118,6 +118,6 @@ pub fn print_compiled(image: &[u8], text: &mut [u8; 147456]) -> usize
     ensures { λ r. ⌜ take r (now (text .exit)) ≡ printed (now (image .entry)) ⌝ }
 {
     let mut out = [0u8; 65536];
-    let answer = translation::compile_bytes(image, &mut out);
+    let answer = lent_images::compile_bytes(image, &mut out);
     put_answer(answer, &out, text)
 }

@@ -1,239 +1,262 @@
--- What the returns of a procedure's parts give. Assumes nothing.
+-- What the returns of a procedure's parts give, and what their calls ask. Assumes nothing.
 use Prim.Native.Nat.{ℕ, _+_, _*_, _-_, _≤_}
-use mathlib.Core.Bool.{Bool, true, false}
-use mathlib.Core.List.{List, [], _∷_, _++_, append-assoc, append-nil}
-use mathlib.Core.Path.{_≡_, refl, sym, ap, _∙_}
+use mathlib.Core.Bool.{Bool, false}
+use mathlib.Core.List.{List, [], _∷_, _++_}
+use mathlib.Core.Path.{_≡_, sym, ap, _∙_}
 use native.Mathlib.Omega.{arith}
-use lib.Dec.{eqb}
-use lib.ListN.{length, take, drop, length-append, take-append-drop}
+use lib.ListN.{length, getD, take, drop}
 use Rattle.definitions.specs.Choice.{pick}
-use Rattle.definitions.specs.Image.{modeOf, parametersOf, variable, return, Statement, Block, done, sequence}
-use Rattle.definitions.specs.Reading.{Parse, got}
+use Rattle.definitions.specs.Image.{formOf, guarded, largestLevel, Procedure}
+use Rattle.definitions.specs.Reading.{got, readBlock}
 use Rattle.definitions.specs.Labels.{rcAfterBlock}
-use Rattle.definitions.specs.Encoding.{wordWith, statementWordWith, expressionWords, statementCount, statementWords}
-use Rattle.definitions.specs.Encoding.{statementsWords, blockWords, procedureWords}
-use Rattle.definitions.specs.Compiling.{one, followedBy, closed, blockTemporaries, compiledBlock, compiledTypes}
-use Rattle.definitions.specs.Compiling.{compiledBody, compiledProcedure}
-use Rattle.laws.specs.Parses.{ok, got-ok}
-use Rattle.tape.specs.Tape.{Tape, write, writes}
-use Rattle.tape.specs.Laws.{writes-on, writes-app, patched}
+use Rattle.definitions.specs.Encoding.{wordWith, statementWordWith, statementCount, statementsWords, blockWords, procedureWords}
+use Rattle.definitions.specs.Compiling.{secretBoolean, defers, guards, returnVariable, firstTemporary, firstMoved, closed, blockTemporaries}
+use Rattle.definitions.specs.Compiling.{compiledBlock, compiledBody, compiledTypes, compiledProcedure}
+use Rattle.laws.specs.ImageIn.{imageIn, proceduresIn, image-words}
+use Rattle.image_words.specs.Read.{BlockRead}
+use Rattle.image_words.specs.StatementParts.{block-got}
+use Rattle.tables.specs.Table.{arraysIn, bodyIn, paramsIn}
+use Rattle.tables.specs.Looking.{Listed, procedureIn, known-arrays, known-arity, known-reads, known-limits}
+use Rattle.writer.specs.Writing.{Output, write, writes}
+use Rattle.writer.specs.Laws.{writes-on, writes-app, run-run, patched}
 use Rattle.contexts.specs.Context.{passedBlock}
 use Rattle.contexts.specs.declared.Passed.{Passed}
-use Rattle.copying.specs.Runs.{run-run}
-use Rattle.emission.specs.Callees.{calleesOf}
 use Rattle.emission.specs.Emitted.{Emission, outcome, emittedBlock}
+use Rattle.emission.specs.declared.Scope.{Scope}
 use Rattle.emission.specs.declared.Cursor.{Cursor}
 use Rattle.locals.specs.Typing.{Typing, typedBlock}
 use Rattle.locals.specs.declared.Typed.{Typed}
-use Rattle.procedures.specs.Procedures.{procedureFrom, Partial, part, typesOn, innerOn, bodyOn, partsOn}
-use Rattle.procedures.specs.Procedures.{procedureOn}
+use Rattle.procedures.specs.Procedures.{Described, typesFor, bodyFor, Partial, part, Whole, whole, procedureOn}
+use Rattle.procedures.specs.declared.Source.{Source}
 use Rattle.procedures.specs.declared.Part.{Part}
+use Rattle.procedures.proofs.Shapes.{closed-count, closed-words, types-words, types-count}
 
--- ---- the closed body
+-- ---- a procedure of form 0, by its number
 
-followed-count : (a b : Block) → statementCount (followedBy a b) ≡ statementCount a + statementCount b
-unfolding followedBy statementCount
-followed-count done b = omega arith
-followed-count (sequence p s a) b = ap (λ z. 1 + z) (followed-count a b) ∙ omega arith
+module _ (image table : List ℕ) (f : ℕ) (h : Listed image table f) (s : imageIn image .form ≡ 0) (l : ℕ) (hl : l ≡ 32) (at : ℕ) (ha : at ≡ bodyIn table f) where
+  body-reads : (m : ℕ) × (readBlock l (paramsIn table) f image at ≡ got (procedureIn image f .body) m)
+  body-reads =
+      let (m, e) = known-reads image table (h .known) f (h .number) in (
+        m,
+        ap (λ (z : ℕ). readBlock z (paramsIn table) f image at) hl ∙ ap (λ (z : ℕ). readBlock 32 (paramsIn table) f image z) ha
+            ∙ ap (λ (z : ℕ). readBlock (largestLevel z) (paramsIn table) f image (bodyIn table f)) (sym s) ∙ e,
+      )
 
-followed-words : (a b : Block) → statementsWords (followedBy a b) ≡ statementsWords a ++ statementsWords b
-unfolding followedBy statementWords
-followed-words done b = refl
-followed-words (sequence p s a) b =
-    ap (λ z. statementWords s ++ z) (followed-words a b) ∙ sym (append-assoc (statementWords s) (statementsWords a) (statementsWords b))
+  pub body-read : BlockRead l (paramsIn table) f image at
+  body-read = let (m, e) = body-reads in block-got l (paramsIn table) f image at (procedureIn image f .body) m e
 
-closed-count : (d : Bool) (rv : ℕ) (b : Block) → pick d 1 0 + statementCount b + pick d 1 0 ≡ statementCount (closed d rv b)
-unfolding closed statementCount
-closed-count true rv b = let z = followed-count b (one (return (variable 0 rv))) in let y = one-count (return (variable 0 rv)) in omega arith
+  pub described : (types : List ℕ) (g : Bool) (n w : ℕ) (d : Passed) → types ≡ procedureIn image f .types → g ≡ guarded (procedureIn image f)
+      → n ≡ getD (paramsIn table) f 0 → w ≡ procedureIn image f .result
+      → d ≡ passedBlock types (arraysIn table) g false (readBlock l (paramsIn table) f image at)
+      → Described image table types (record { me = f; guarded = g; parameters = n; result = w; body = at; defers = d .rc })
+  unfolding passedBlock
+  described types g n w d ht hg hn hw hd =
+      let (m, e) = body-reads in
+      let P = procedureIn image f in
+      record {
+        listed = h;
+        source-form = s;
+        types-are = ht;
+        guarded-is = hg;
+        parameters-are = hn ∙ known-arity image table (h .known) f (h .number);
+        result-is = hw;
+        body-is = ha;
+        defers-is =
+            ap (λ (z : Passed). z .rc) (hd ∙ ap (λ z. passedBlock types (arraysIn table) g false z) e)
+            ∙ ap (λ (z : List ℕ). rcAfterBlock z (arraysIn table) g false (P .body)) ht
+            ∙ ap (λ (z : List ℕ). rcAfterBlock (P .types) z g false (P .body)) (known-arrays image table (h .known))
+            ∙ ap (λ (z : Bool). rcAfterBlock (P .types) (imageIn image .arrays) z false (P .body)) hg;
+      }
+
+-- the statements of a body, with its opening and its close
+inner-pure : (ps : List Procedure) (arrays : List ℕ) (p : Procedure) (me at m o : ℕ) (out : List ℕ) (q : ℕ) (t1 : List ℕ) (c : Cursor) (t2 : List ℕ) (r : ℕ) (t3 : List ℕ)
+    → _≡_ {A = Output} (q, t1) (writes o out (pick (defers arrays p) (statementWordWith 0 (returnVariable p + 1) ∷ (wordWith 9 1 ∷ [])) []))
+    → _≡_ {A = Emission} (c, t2) (emittedBlock ps arrays (p .types)
+    (record { me = me; pc = guarded p; arm = p .parameters; first = firstMoved p; rv = returnVariable p })
+    (record { at = at; o = q; n = pick (defers arrays p) 1 0; k = firstTemporary arrays p; rc = false }) t1 (got (p .body) m))
+    → _≡_ {A = Output} (r, t3) (writes (c .o) t2 (pick (defers arrays p) (statementWordWith 4 0 ∷ (wordWith 10 (returnVariable p) ∷ [])) []))
+    → _≡_ {A = Partial} (record { o = r; n = c .n + pick (defers arrays p) 1 0; k = c .k }, t3) (
+      record { o = writes o out (statementsWords (compiledBody ps arrays p)) .0; n = statementCount (compiledBody ps arrays p); k = length (compiledTypes ps arrays p) },
+      writes o out (statementsWords (compiledBody ps arrays p)) .1,
+    )
+unfolding emittedBlock compiledBody
+inner-pure ps arrays p me at m o out q t1 c t2 r t3 e f g =
+    let D = defers arrays p in
+    let R = returnVariable p in
+    let K = firstTemporary arrays p in
+    let B = compiledBlock ps arrays (p .types) (firstMoved p) R (p .body) (guarded p) (p .parameters) false K in
+    let T = blockTemporaries ps arrays (p .types) (guarded p) false (p .body) in
+    let L = pick {A = List ℕ} D (statementWordWith 0 (R + 1) ∷ (wordWith 9 1 ∷ [])) [] in
+    let Z = pick {A = List ℕ} D (statementWordWith 4 0 ∷ (wordWith 10 R ∷ [])) [] in
+    let S : Scope = record { me = me; pc = guarded p; arm = p .parameters; first = firstMoved p; rv = R } in
+    let C : _≡_ {A = Emission} (c, t2) (outcome m (pick D 1 0 + statementCount B) (K + length T) (rcAfterBlock (p .types) arrays (guarded p) false (p .body))
+    (writes o out (L ++ statementsWords B))) =
+    f ∙ ap (λ (y : Output). emittedBlock ps arrays (p .types) S (record { at = at; o = y .0; n = pick D 1 0; k = K; rc = false }) (y .1) (got (p .body) m)) e
+    ∙ ap (λ (y : Output). outcome m (pick D 1 0 + statementCount B) (K + length T) (rcAfterBlock (p .types) arrays (guarded p) false (p .body)) y)
+    (sym (writes-app L (statementsWords B) o out)) in
+    let W : _≡_ {A = Output} (r, t3) (writes o out ((L ++ statementsWords B) ++ Z)) =
+    g ∙ ap (λ (y : Emission). writes (y .0 .o) (y .1) Z) C ∙ sym (writes-app (L ++ statementsWords B) Z o out) in
+    ap (λ (y : Output). counted (c .n + pick D 1 0) (c .k) y) W
+    ∙ ap (λ (y : Emission). counted (y .0 .n + pick D 1 0) (y .0 .k) (writes o out ((L ++ statementsWords B) ++ Z))) C
+    ∙ ap (λ (y : ℕ). counted y (K + length T) (writes o out ((L ++ statementsWords B) ++ Z))) (closed-count D R B)
+    ∙ ap (λ (y : ℕ). counted (statementCount (closed D R B)) y (writes o out ((L ++ statementsWords B) ++ Z))) (sym (types-count ps arrays p))
+    ∙ ap (λ (ws : List ℕ). counted (statementCount (closed D R B)) (length (compiledTypes ps arrays p)) (writes o out ws)) (closed-words D R B)
   where
-    one-count : (s : Statement) → statementCount (one s) ≡ 1
-    one-count s = refl
-closed-count false rv b = omega arith
+    counted : ℕ → ℕ → Output → Partial
+    counted n k z = (record { o = z .0; n = n; k = k }, z .1)
 
-closed-words : (d : Bool) (rv : ℕ) (b : Block)
-    → (pick d (wordWith 6 (rv + 1) ∷ (wordWith 9 1 ∷ [])) [] ++ statementsWords b) ++ pick d (1610874880 ∷ (wordWith 10 rv ∷ [])) [] ≡ statementsWords (closed d rv b)
-unfolding closed statementWords expressionWords
-closed-words true rv b =
-    let z : wordWith 6 (rv + 1) ≡ statementWordWith 0 (rv + 1) = omega arith in
-    ap (λ w. w ∷ (wordWith 9 1 ∷ (statementsWords b ++ (1610874880 ∷ (wordWith 10 rv ∷ []))))) z
-    ∙ ap (λ ws. statementWordWith 0 (rv + 1) ∷ (wordWith 9 1 ∷ ws)) (sym (followed-words b (one (return (variable 0 rv)))))
-closed-words false rv b = append-nil _
+-- ---- what its description tells
 
--- ---- the types
+module _ (image table types : List ℕ) (p : Source) (d : Described image table types p) where
+  pub source-short : length image ≤ 4096
+  source-short =
+      let (n, w) = image-words image (d .listed .known .read) in
+      let f : formOf (getD image 0 0) ≡ 0 = sym (w .form) ∙ d .source-form in
+      rw f at (w .short)
 
-module _ (cs arrays types : List ℕ) (w result : ℕ) (b : Block) (d : Bool) (h : rcAfterBlock types arrays (eqb (modeOf w) 1) false b ≡ d) where
-  types-words : ((take (parametersOf w) types ++ (pick (eqb (modeOf w) 1) (1073741827 ∷ []) [] ++ drop (parametersOf w) types))
-      ++ pick d (result ∷ (1073741827 ∷ [])) []) ++ blockTemporaries (calleesOf cs) arrays types (eqb (modeOf w) 1) false b
-      ≡ compiledTypes (calleesOf cs) arrays (procedureFrom w result types b)
-  unfolding compiledTypes
-  types-words = rw h (simp append-assoc)
+  pub types-few : length types ≤ 255
+  types-few = rw (d .types-are) (known-limits image table (d .listed .known) (p .me) (d .listed .number) .3)
 
-  types-count : length (compiledTypes (calleesOf cs) arrays (procedureFrom w result types b))
-      ≡ length types + pick (eqb (modeOf w) 1) 1 0 + pick d 2 0 + length (blockTemporaries (calleesOf cs) arrays types (eqb (modeOf w) 1) false b)
-  types-count =
-      let T = blockTemporaries (calleesOf cs) arrays types (eqb (modeOf w) 1) false b in
-      let A = take (parametersOf w) types ++ (pick (eqb (modeOf w) 1) (1073741827 ∷ []) [] ++ drop (parametersOf w) types) in
-      let e1 = ap length (sym types-words) in
-      let e2 = length-append (A ++ pick d (result ∷ (1073741827 ∷ [])) []) T in
-      let e3 = length-append A (pick d (result ∷ (1073741827 ∷ [])) []) in
-      let e4 = length-append (take (parametersOf w) types) (pick (eqb (modeOf w) 1) (1073741827 ∷ []) [] ++ drop (parametersOf w) types) in
-      let e5 = length-append (pick (eqb (modeOf w) 1) (1073741827 ∷ []) []) (drop (parametersOf w) types) in
-      let e6 = length-append (take (parametersOf w) types) (drop (parametersOf w) types) in
-      let e7 = ap length (take-append-drop (parametersOf w) types) in
-      let e8 = guard-length (eqb (modeOf w) 1) in
-      let e9 = two-length d in
+  pub parameters-within : p .parameters ≤ length types
+  parameters-within = rw (d .parameters-are, d .types-are) (known-limits image table (d .listed .known) (p .me) (d .listed .number) .2)
+
+  pub few-parameters : p .parameters ≤ 8
+  few-parameters =
+      let l = known-limits image table (d .listed .known) (p .me) (d .listed .number) .1 in
+      let f = d .source-form in
+      let q = d .parameters-are in
       omega arith
-    where
-      guard-length : (g : Bool) → length {A = ℕ} (pick {A = List ℕ} g (1073741827 ∷ []) []) ≡ pick {A = ℕ} g 1 0
-      guard-length true = refl
-      guard-length false = refl
 
-      two-length : (g : Bool) → length {A = ℕ} (pick {A = List ℕ} g (result ∷ (1073741827 ∷ [])) []) ≡ pick {A = ℕ} g 2 0
-      two-length true = refl
-      two-length false = refl
+  pub source-body : (l : ℕ) → l ≡ 32 → BlockRead l (paramsIn table) (p .me) image (p .body)
+  source-body l hl = body-read image table (p .me) (d .listed) (d .source-form) l hl (p .body) (d .body-is)
 
-label-rc : (types arrays : List ℕ) (pc : Bool) (x : Parse Block) (b : Block) (m : ℕ) (d : Bool) → x ≡ got b m → passedBlock types arrays pc false x .rc ≡ d
-    → rcAfterBlock types arrays pc false b ≡ d
-unfolding passedBlock
-label-rc types arrays pc x b m d q h = sym (ap (λ z. passedBlock types arrays pc false z .rc) q) ∙ h
+  pub types-on : (l n o : ℕ) (out : List ℕ) (a : ℕ) (t1 : List ℕ) (b : ℕ) (t2 : List ℕ) (v : Typed) (t3 : List ℕ) → l ≡ 32 → n ≡ p .parameters
+      → _≡_ {A = Output} (a, t1) (writes o out (take n types ++ (pick (p .guarded) (secretBoolean ∷ []) [] ++ drop n types)))
+      → _≡_ {A = Output} (b, t2) (writes a t1 (pick (p .defers) (p .result ∷ (secretBoolean ∷ [])) []))
+      → _≡_ {A = Typing} (v, t3) (typedBlock (proceduresIn image) (arraysIn table) types (record { me = p .me; pc = p .guarded })
+      (record { at = p .body; o = b; rc = false }) t2 (readBlock l (paramsIn table) (p .me) image (p .body)))
+      → _≡_ {A = Output} (v .o, t3) (writes o out (typesFor image (p .me)))
+  unfolding typedBlock
+  types-on l n o out a t1 b t2 v t3 hl hn e f g =
+      let (m, z) = body-reads image table (p .me) (d .listed) (d .source-form) l hl (p .body) (d .body-is) in
+      let P = procedureIn image (p .me) in
+      let A = imageIn image .arrays in
+      let D = pick {A = List ℕ} (defers A P) (P .result ∷ (secretBoolean ∷ [])) [] in
+      let E = e ∙ ap (λ (y : ℕ). writes o out (take y types ++ (pick (p .guarded) (secretBoolean ∷ []) [] ++ drop y types))) (hn ∙ d .parameters-are)
+      ∙ ap (λ (y : List ℕ). writes o out (take (P .parameters) y ++ (pick (p .guarded) (secretBoolean ∷ []) [] ++ drop (P .parameters) y))) (d .types-are)
+      ∙ ap (λ (y : Bool). writes o out (take (P .parameters) (P .types) ++ (pick y (secretBoolean ∷ []) [] ++ drop (P .parameters) (P .types)))) (d .guarded-is) in
+      let F : _≡_ {A = Output} (b, t2) (writes a t1 D) =
+      f ∙ ap (λ (y : ℕ). writes a t1 (pick (p .defers) (y ∷ (secretBoolean ∷ [])) [])) (d .result-is)
+      ∙ ap (λ (y : Bool). writes a t1 (pick y (P .result ∷ (secretBoolean ∷ [])) [])) (d .defers-is) in
+      let G : _≡_ {A = Output} (v .o, t3) (writes b t2 (blockTemporaries (proceduresIn image) A (P .types) (guarded P) false (P .body))) =
+      ap (λ (y : Typing). (y .0 .o, y .1)) (g ∙ ap (λ y. typedBlock (proceduresIn image) (arraysIn table) types (record { me = p .me; pc = p .guarded })
+      (record { at = p .body; o = b; rc = false }) t2 y) z)
+      ∙ ap (λ (y : List ℕ). writes b t2 (blockTemporaries (proceduresIn image) (arraysIn table) y (p .guarded) false (P .body))) (d .types-are)
+      ∙ ap (λ (y : List ℕ). writes b t2 (blockTemporaries (proceduresIn image) y (P .types) (p .guarded) false (P .body))) (known-arrays image table (d .listed .known))
+      ∙ ap (λ (y : Bool). writes b t2 (blockTemporaries (proceduresIn image) A (P .types) y false (P .body))) (d .guarded-is) in
+      run-run o out b t2 _ (blockTemporaries (proceduresIn image) A (P .types) (guarded P) false (P .body)) (v .o, t3) (run-run o out a t1 _ D (b, t2) E F) G
+      ∙ ap (λ (ws : List ℕ). writes o out ws) (types-words (proceduresIn image) A P)
 
-module _ (cs arrays types : List ℕ) (w result o : ℕ) (out : List ℕ) (x : Parse Block) (t : ok x ≡ true) (d : Bool)
-    (h : passedBlock types arrays (eqb (modeOf w) 1) false x .rc ≡ d) where
-  pub types-on : (a : ℕ) (t1 : List ℕ) (b : ℕ) (t2 : List ℕ) (v : Typed) (t3 : List ℕ)
-      → _≡_ {A = Tape} (a, t1) (writes o out (take (parametersOf w) types ++ (pick (eqb (modeOf w) 1) (1073741827 ∷ []) [] ++ drop (parametersOf w) types)))
-      → _≡_ {A = Tape} (b, t2) (writes a t1 (pick d (result ∷ (1073741827 ∷ [])) []))
-      → _≡_ {A = Typing} (v, t3) (typedBlock cs arrays types (eqb (modeOf w) 1) false b t2 x)
-      → _≡_ {A = Tape} (v .o, t3) (typesOn cs arrays types w result o out x)
-  unfolding typesOn typedBlock
-  types-on a t1 b t2 v t3 e f g =
-      let (z, m, q) = got-ok x t in
-      let G : _≡_ {A = Typing} (v, t3) (typedBlock cs arrays types (eqb (modeOf w) 1) false b t2 (got z m)) =
-      g ∙ ap (λ y. typedBlock cs arrays types (eqb (modeOf w) 1) false b t2 y) q in
-      run-run o out b t2 _ (blockTemporaries (calleesOf cs) arrays types (eqb (modeOf w) 1) false z) (v .o, t3)
-      (run-run o out a t1 _ (pick d (result ∷ (1073741827 ∷ [])) []) (b, t2) e f) (ap (λ (y : Typing). (y .0 .o, y .1)) G)
-      ∙ ap (λ ws. writes o out ws) (types-words cs arrays types w result z d (label-rc types arrays (eqb (modeOf w) 1) x z m d q h))
-      ∙ ap (λ y. typesOn cs arrays types w result o out y) (sym q)
+  pub inner-on : (l o : ℕ) (out : List ℕ) (size g e first s q : ℕ) (t1 : List ℕ) (c : Cursor) (t2 : List ℕ) (r : ℕ) (t3 : List ℕ)
+      → l ≡ 32 → size ≡ length types → g ≡ pick (p .guarded) 1 0 → e ≡ pick (p .defers) 2 0 → first ≡ pick (p .guarded) (p .parameters) size
+      → s ≡ pick (p .defers) 1 0
+      → _≡_ {A = Output} (q, t1) (writes o out (pick (p .defers) (statementWordWith 0 (size + g + 1) ∷ (wordWith 9 1 ∷ [])) []))
+      → _≡_ {A = Emission} (c, t2) (emittedBlock (proceduresIn image) (arraysIn table) types
+      (record { me = p .me; pc = p .guarded; arm = p .parameters; first = first; rv = size + g })
+      (record { at = p .body; o = q; n = s; k = size + g + e; rc = false }) t1 (readBlock l (paramsIn table) (p .me) image (p .body)))
+      → _≡_ {A = Output} (r, t3) (writes (c .o) t2 (pick (p .defers) (statementWordWith 4 0 ∷ (wordWith 10 (size + g) ∷ [])) []))
+      → _≡_ {A = Partial} (record { o = r; n = c .n + s; k = c .k }, t3) (part image (p .me) (writes o out (statementsWords (bodyFor image (p .me)))))
+  inner-on l o out size g e first s q t1 c t2 r t3 hl hz hg he hf hs i j k =
+      let (m, z) = body-reads image table (p .me) (d .listed) (d .source-form) l hl (p .body) (d .body-is) in
+      let P = procedureIn image (p .me) in
+      let A = imageIn image .arrays in
+      let R = returnVariable P in
+      let D = defers A P in
+      let HZ : size ≡ length (P .types) = hz ∙ ap length (d .types-are) in
+      let HR : size + g ≡ R = ap (λ (y : ℕ). y + g) HZ ∙ ap (λ (y : ℕ). length (P .types) + y) (hg ∙ ap (λ (y : Bool). pick y 1 0) (d .guarded-is)) in
+      let HK : size + g + e ≡ firstTemporary A P =
+      ap (λ (y : ℕ). y + e) HR ∙ ap (λ (y : ℕ). R + y) (he ∙ ap (λ (y : Bool). pick y 2 0) (d .defers-is)) in
+      let HF : first ≡ firstMoved P =
+      hf ∙ ap (λ (y : ℕ). pick (p .guarded) (p .parameters) y) HZ ∙ ap (λ (y : ℕ). pick (p .guarded) y (length (P .types))) (d .parameters-are)
+      ∙ ap (λ (y : Bool). pick y (P .parameters) (length (P .types))) (d .guarded-is) in
+      let HS : s ≡ pick D 1 0 = hs ∙ ap (λ (y : Bool). pick y 1 0) (d .defers-is) in
+      let S : _≡_ {A = Scope} (record { me = p .me; pc = p .guarded; arm = p .parameters; first = first; rv = size + g })
+      (record { me = p .me; pc = guarded P; arm = P .parameters; first = firstMoved P; rv = R }) = rw (HR, HF, d .guarded-is, d .parameters-are) in
+      let C : _≡_ {A = Cursor} (record { at = p .body; o = q; n = s; k = size + g + e; rc = false })
+      (record { at = p .body; o = q; n = pick D 1 0; k = firstTemporary A P; rc = false }) = rw (HK, HS) in
+      ap (λ (y : ℕ). (record { o = r; n = c .n + y; k = c .k }, t3)) HS
+      ∙ inner-pure (proceduresIn image) A P (p .me) (p .body) m o out q t1 c t2 r t3
+      (i ∙ ap (λ (y : ℕ). writes o out (pick (p .defers) (statementWordWith 0 (y + 1) ∷ (wordWith 9 1 ∷ [])) [])) HR
+      ∙ ap (λ (y : Bool). writes o out (pick y (statementWordWith 0 (R + 1) ∷ (wordWith 9 1 ∷ [])) [])) (d .defers-is))
+      (j ∙ ap (λ y. emittedBlock (proceduresIn image) (arraysIn table) types (record { me = p .me; pc = p .guarded; arm = p .parameters; first = first; rv = size + g })
+      (record { at = p .body; o = q; n = s; k = size + g + e; rc = false }) t1 y) z
+      ∙ ap (λ (y : Scope). emittedBlock (proceduresIn image) (arraysIn table) types y
+      (record { at = p .body; o = q; n = s; k = size + g + e; rc = false }) t1 (got (P .body) m)) S
+      ∙ ap (λ (y : Cursor). emittedBlock (proceduresIn image) (arraysIn table) types
+      (record { me = p .me; pc = guarded P; arm = P .parameters; first = firstMoved P; rv = R }) y t1 (got (P .body) m)) C
+      ∙ ap (λ (y : List ℕ). emittedBlock (proceduresIn image) (arraysIn table) y
+      (record { me = p .me; pc = guarded P; arm = P .parameters; first = firstMoved P; rv = R })
+      (record { at = p .body; o = q; n = pick D 1 0; k = firstTemporary A P; rc = false }) t1 (got (P .body) m)) (d .types-are)
+      ∙ ap (λ (y : List ℕ). emittedBlock (proceduresIn image) y (P .types)
+      (record { me = p .me; pc = guarded P; arm = P .parameters; first = firstMoved P; rv = R })
+      (record { at = p .body; o = q; n = pick D 1 0; k = firstTemporary A P; rc = false }) t1 (got (P .body) m)) (known-arrays image table (d .listed .known)))
+      (k ∙ ap (λ (y : ℕ). writes (c .o) t2 (pick (p .defers) (statementWordWith 4 0 ∷ (wordWith 10 y ∷ [])) [])) HR
+      ∙ ap (λ (y : Bool). writes (c .o) t2 (pick y (statementWordWith 4 0 ∷ (wordWith 10 R ∷ [])) [])) (d .defers-is))
 
-  inner-on : (rv first k s q : ℕ) (t1 : List ℕ) (c : Cursor) (t2 : List ℕ) (r : ℕ) (t3 : List ℕ)
-      → rv ≡ length types + pick (eqb (modeOf w) 1) 1 0 → first ≡ pick (eqb (modeOf w) 1) (parametersOf w) (length types)
-      → k ≡ rv + pick d 2 0 → s ≡ pick d 1 0
-      → _≡_ {A = Tape} (q, t1) (writes o out (pick d (wordWith 6 (rv + 1) ∷ (wordWith 9 1 ∷ [])) []))
-      → _≡_ {A = Emission} (c, t2) (emittedBlock cs arrays types first rv (eqb (modeOf w) 1) (parametersOf w) false q s k t1 x)
-      → _≡_ {A = Tape} (r, t3) (writes (c .o) t2 (pick d (1610874880 ∷ (wordWith 10 rv ∷ [])) []))
-      → _≡_ {A = Partial} (record { o = r; n = c .n + s; k = c .k }, t3) (innerOn cs arrays types w result o out x)
-  unfolding innerOn emittedBlock compiledBody
-  inner-on rv first k s q t1 c t2 r t3 hr hf hk hs e f g =
-      let (b, m, z) = got-ok x t in
-      let G = eqb (modeOf w) 1 in
-      let R = length types + pick G 1 0 in
-      let F = pick G (parametersOf w) (length types) in
-      let H = label-rc types arrays G x b m d z h in
-      let B = compiledBlock (calleesOf cs) arrays types F R b G (parametersOf w) false (R + pick d 2 0) in
-      let T = blockTemporaries (calleesOf cs) arrays types G false b in
-      let L = pick d (wordWith 6 (R + 1) ∷ (wordWith 9 1 ∷ [])) [] in
-      let Z = pick d (1610874880 ∷ (wordWith 10 R ∷ [])) [] in
-      let E : _≡_ {A = Tape} (q, t1) (writes o out L) = e ∙ ap (λ y. writes o out (pick d (wordWith 6 (y + 1) ∷ (wordWith 9 1 ∷ [])) [])) hr in
-      let C : _≡_ {A = Emission} (c, t2) (outcome m (pick d 1 0 + statementCount B) (R + pick d 2 0 + length T) (rcAfterBlock types arrays G false b)
-      (writes o out (L ++ statementsWords B))) =
-      f ∙ ap (λ y. emittedBlock cs arrays types y rv G (parametersOf w) false q s k t1 x) hf
-      ∙ ap (λ y. emittedBlock cs arrays types F rv G (parametersOf w) false q y k t1 x) hs
-      ∙ ap (λ y. emittedBlock cs arrays types F rv G (parametersOf w) false q (pick d 1 0) y t1 x) hk
-      ∙ ap (λ y. emittedBlock cs arrays types F y G (parametersOf w) false q (pick d 1 0) (y + pick d 2 0) t1 x) hr
-      ∙ ap (λ (y : Tape). emittedBlock cs arrays types F R G (parametersOf w) false (y .0) (pick d 1 0) (R + pick d 2 0) (y .1) x) E
-      ∙ ap (λ y. emittedBlock cs arrays types F R G (parametersOf w) false (writes o out L .0) (pick d 1 0) (R + pick d 2 0) (writes o out L .1) y) z
-      ∙ ap (λ (y : Tape). outcome m (pick d 1 0 + statementCount B) (R + pick d 2 0 + length T) (rcAfterBlock types arrays G false b) y)
-      (sym (writes-app L (statementsWords B) o out)) in
-      let W : _≡_ {A = Tape} (r, t3) (writes o out ((L ++ statementsWords B) ++ Z)) =
-      g ∙ ap (λ y. writes (c .o) t2 (pick d (1610874880 ∷ (wordWith 10 y ∷ [])) [])) hr
-      ∙ ap (λ (y : Emission). writes (y .0 .o) (y .1) Z) C ∙ sym (writes-app (L ++ statementsWords B) Z o out) in
-      ap (λ (y : Tape). part (c .n + s) (c .k) y) W
-      ∙ ap (λ (y : Emission). part (y .0 .n + s) (y .0 .k) (writes o out ((L ++ statementsWords B) ++ Z))) C
-      ∙ ap (λ y. part (pick d 1 0 + statementCount B + y) (R + pick d 2 0 + length T) (writes o out ((L ++ statementsWords B) ++ Z))) hs
-      ∙ ap (λ y. part y (R + pick d 2 0 + length T) (writes o out ((L ++ statementsWords B) ++ Z))) (closed-count d R B)
-      ∙ ap (λ y. part (statementCount (closed d R B)) y (writes o out ((L ++ statementsWords B) ++ Z))) (sym (types-count cs arrays types w result b d H))
-      ∙ ap (λ ws. part (statementCount (closed d R B)) (length (compiledTypes (calleesOf cs) arrays (procedureFrom w result types b))) (writes o out ws)) (closed-words d R B)
-      ∙ body-is b d H
-      ∙ ap (λ y. innerOn cs arrays types w result o out y) (sym z)
-    where
-      body-is : (b : Block) (d : Bool) → rcAfterBlock types arrays (eqb (modeOf w) 1) false b ≡ d
-          → part (statementCount (closed d (length types + pick (eqb (modeOf w) 1) 1 0)
-          (compiledBlock (calleesOf cs) arrays types (pick (eqb (modeOf w) 1) (parametersOf w) (length types)) (length types + pick (eqb (modeOf w) 1) 1 0) b
-          (eqb (modeOf w) 1) (parametersOf w) false (length types + pick (eqb (modeOf w) 1) 1 0 + pick d 2 0))))
-          (length (compiledTypes (calleesOf cs) arrays (procedureFrom w result types b)))
-          (writes o out (statementsWords (closed d (length types + pick (eqb (modeOf w) 1) 1 0)
-          (compiledBlock (calleesOf cs) arrays types (pick (eqb (modeOf w) 1) (parametersOf w) (length types)) (length types + pick (eqb (modeOf w) 1) 1 0) b
-          (eqb (modeOf w) 1) (parametersOf w) false (length types + pick (eqb (modeOf w) 1) 1 0 + pick d 2 0)))))
-          ≡ part (statementCount (compiledBody (calleesOf cs) arrays (procedureFrom w result types b)))
-          (length (compiledTypes (calleesOf cs) arrays (procedureFrom w result types b)))
-          (writes o out (statementsWords (compiledBody (calleesOf cs) arrays (procedureFrom w result types b))))
-      body-is b d H = rw (← H)
+-- ---- the parts together
 
-  pub inner-from : (g e first s q : ℕ) (t1 : List ℕ) (c : Cursor) (t2 : List ℕ) (r : ℕ) (t3 : List ℕ)
-      → g ≡ pick (eqb (modeOf w) 1) 1 0 → first ≡ pick (eqb (modeOf w) 1) (parametersOf w) (length types) → e ≡ pick d 2 0 → s ≡ pick d 1 0
-      → _≡_ {A = Tape} (q, t1) (writes o out (pick d (wordWith 6 (length types + g + 1) ∷ (wordWith 9 1 ∷ [])) []))
-      → _≡_ {A = Emission} (c, t2)
-      (emittedBlock cs arrays types first (length types + g) (eqb (modeOf w) 1) (parametersOf w) false q s (length types + g + e) t1 x)
-      → _≡_ {A = Tape} (r, t3) (writes (c .o) t2 (pick d (1610874880 ∷ (wordWith 10 (length types + g) ∷ [])) []))
-      → _≡_ {A = Partial} (record { o = r; n = c .n + s; k = c .k }, t3) (innerOn cs arrays types w result o out x)
-  inner-from g e first s q t1 c t2 r t3 hg hf he hs i j k =
-      inner-on (length types + g) first (length types + g + e) s q t1 c t2 r t3 (ap (λ (z : ℕ). length types + z) hg) hf
-      (ap (λ (z : ℕ). length types + g + z) he) hs i j k
+module _ (image : List ℕ) (f o : ℕ) (out : List ℕ) where
+  pub body-on : (p : ℕ) (t1 : List ℕ) (c : Part) (t2 t3 : List ℕ) (w : ℕ) → _≡_ {A = Output} (p, t1) (write o out 0)
+      → _≡_ {A = Partial} (c, t2) (part image f (writes p t1 (statementsWords (bodyFor image f)))) → w ≡ wordWith 5 (c .n) → t3 ≡ write o t2 w .1
+      → _≡_ {A = Partial} (c, t3) (part image f (writes o out (blockWords (bodyFor image f))))
+  unfolding blockWords
+  body-on p t1 c t2 t3 w e g hw h =
+      let B = bodyFor image f in
+      let C : _≡_ {A = Partial} (c, t2) (part image f (writes o out (0 ∷ statementsWords B))) =
+      g ∙ ap (λ (y : Output). part image f (writes (y .0) (y .1) (statementsWords B))) e
+      ∙ ap (λ (y : Output). part image f y) (sym (writes-on o out 0 (statementsWords B))) in
+      ap (λ (y : List ℕ). (c, y)) (h ∙ ap (λ (y : ℕ). write o t2 y .1) hw)
+      ∙ ap (λ (y : Partial). (y .0, write o (y .1) (wordWith 5 (y .0 .n)) .1)) C
+      ∙ ap (λ (y : Output). part image f y) (patched o out 0 (wordWith 5 (statementCount B)) (statementsWords B))
 
-module _ (cs arrays types : List ℕ) (w result o : ℕ) (out : List ℕ) (x : Parse Block) (t : ok x ≡ true) where
-  pub closed-on : (p : ℕ) (t1 : List ℕ) (c : Part) (t2 t3 : List ℕ) → _≡_ {A = Tape} (p, t1) (write o out 0)
-      → _≡_ {A = Partial} (c, t2) (innerOn cs arrays types w result p t1 x) → t3 ≡ write o t2 (1342177280 + c .n) .1
-      → _≡_ {A = Partial} (c, t3) (bodyOn cs arrays types w result o out x)
-  unfolding innerOn bodyOn blockWords
-  closed-on p t1 c t2 t3 e f g =
-      let (b, m, q) = got-ok x t in
-      let B = compiledBody (calleesOf cs) arrays (procedureFrom w result types b) in
-      let N = statementCount B in
-      let K = length (compiledTypes (calleesOf cs) arrays (procedureFrom w result types b)) in
-      let C : _≡_ {A = Partial} (c, t2) (part N K (writes o out (0 ∷ statementsWords B))) =
-      f ∙ ap (λ (y : Tape). innerOn cs arrays types w result (y .0) (y .1) x) e
-      ∙ ap (λ y. innerOn cs arrays types w result (write o out 0 .0) (write o out 0 .1) y) q
-      ∙ ap (λ (y : Tape). part N K y) (sym (writes-on o out 0 (statementsWords B))) in
-      ap (λ y. (c, y)) g ∙ ap (λ (y : Partial). (y .0, write o (y .1) (1342177280 + y .0 .n) .1)) C
-      ∙ ap (λ (y : Tape). part N K y) (patched o out 0 (wordWith 5 N) (statementsWords B))
-      ∙ ap (λ y. bodyOn cs arrays types w result o out y) (sym q)
+  pub parts-on : (a : ℕ) (t1 : List ℕ) (c : Part) (t2 : List ℕ) → _≡_ {A = Output} (a, t1) (writes o out (typesFor image f))
+      → _≡_ {A = Partial} (c, t2) (part image f (writes a t1 (blockWords (bodyFor image f))))
+      → _≡_ {A = Partial} (c, t2) (part image f (writes o out (typesFor image f ++ blockWords (bodyFor image f))))
+  parts-on a t1 c t2 e g =
+      g ∙ ap (λ (y : Output). part image f (writes (y .0) (y .1) (blockWords (bodyFor image f)))) e
+      ∙ ap (λ (y : Output). part image f y) (sym (writes-app (typesFor image f) (blockWords (bodyFor image f)) o out))
 
-  pub parts-on : (a : ℕ) (t1 : List ℕ) (c : Part) (t2 : List ℕ) → _≡_ {A = Tape} (a, t1) (typesOn cs arrays types w result o out x)
-      → _≡_ {A = Partial} (c, t2) (bodyOn cs arrays types w result a t1 x) → _≡_ {A = Partial} (c, t2) (partsOn cs arrays types w result o out x)
-  unfolding typesOn bodyOn partsOn
-  parts-on a t1 c t2 e f =
-      let (b, m, q) = got-ok x t in
-      let B = blockWords (compiledBody (calleesOf cs) arrays (procedureFrom w result types b)) in
-      let T = compiledTypes (calleesOf cs) arrays (procedureFrom w result types b) in
-      let N = statementCount (compiledBody (calleesOf cs) arrays (procedureFrom w result types b)) in
-      let E : _≡_ {A = Tape} (a, t1) (writes o out T) = e ∙ ap (λ y. typesOn cs arrays types w result o out y) q in
-      f ∙ ap (λ y. bodyOn cs arrays types w result a t1 y) q
-      ∙ ap (λ (y : Tape). part N (length T) (writes (y .0) (y .1) B)) E
-      ∙ ap (λ (y : Tape). part N (length T) y) (sym (writes-app T B o out))
-      ∙ ap (λ y. partsOn cs arrays types w result o out y) (sym q)
+module _ (image table types : List ℕ) (p : Source) (d : Described image table types p) (g : ℕ) (hg : g ≡ pick (p .guarded) 1 0) (h : ℕ) (t1 : List ℕ)
+    (c : Part) (t2 : List ℕ)
+    (e : _≡_ {A = Partial} (c, t2) (part image (p .me) (writes h t1 (typesFor image (p .me) ++ blockWords (bodyFor image (p .me)))))) where
+  parameters-is : p .parameters + g ≡ procedureIn image (p .me) .parameters + guards (procedureIn image (p .me))
+  parameters-is =
+      ap (λ (y : ℕ). y + g) (d .parameters-are)
+      ∙ ap (λ (y : ℕ). procedureIn image (p .me) .parameters + y) (hg ∙ ap (λ (y : Bool). pick y 1 0) (d .guarded-is))
 
-  pub procedure-on : (h : ℕ) (t1 : List ℕ) (c : Part) (t2 t3 : List ℕ) (g : ℕ) → parametersOf w ≤ length types → g ≡ pick (eqb (modeOf w) 1) 1 0
-      → _≡_ {A = Tape} (h, t1) (writes o out (0 ∷ (result ∷ []))) → _≡_ {A = Partial} (c, t2) (partsOn cs arrays types w result h t1 x)
-      → t3 ≡ write o t2 (805306368 + (parametersOf w + g) * 255 + c .k) .1
-      → _≡_ {A = Partial} (c, t3) (procedureOn cs arrays types w result o out x)
-  unfolding partsOn procedureOn procedureWords compiledProcedure
-  procedure-on h t1 c t2 t3 g i j e f k =
-      let (b, m, q) = got-ok x t in
-      let B = blockWords (compiledBody (calleesOf cs) arrays (procedureFrom w result types b)) in
-      let T = compiledTypes (calleesOf cs) arrays (procedureFrom w result types b) in
-      let N = statementCount (compiledBody (calleesOf cs) arrays (procedureFrom w result types b)) in
-      let G : ℕ = pick (eqb (modeOf w) 1) 1 0 in
-      let C : _≡_ {A = Partial} (c, t2) (part N (length T) (writes o out (0 ∷ (result ∷ (T ++ B))))) =
-      f ∙ ap (λ y. partsOn cs arrays types w result h t1 y) q
-      ∙ ap (λ (y : Tape). part N (length T) (writes (y .0) (y .1) (T ++ B))) e
-      ∙ ap (λ (y : Tape). part N (length T) y) (sym (writes-app (0 ∷ (result ∷ [])) (T ++ B) o out)) in
-      let n = types-count cs arrays types w result b (rcAfterBlock types arrays (eqb (modeOf w) 1) false b) refl in
-      let z : 805306368 + (parametersOf w + G) * 255 + length T ≡ wordWith 3 (0 * 65536 + (parametersOf w + G) * 256 + (length T - (parametersOf w + G))) = omega arith in
-      ap (λ y. (c, y)) k ∙ ap (λ y. (c, write o t2 (805306368 + (parametersOf w + y) * 255 + c .k) .1)) j
-      ∙ ap (λ (y : Partial). (y .0, write o (y .1) (805306368 + (parametersOf w + G) * 255 + y .0 .k) .1)) C
-      ∙ ap (λ v. part N (length T) (writes o out (0 ∷ (result ∷ (T ++ B))) .0, write o (writes o out (0 ∷ (result ∷ (T ++ B))) .1) v .1)) z
-      ∙ ap (λ (y : Tape). part N (length T) y)
-      (patched o out 0 (wordWith 3 (0 * 65536 + (parametersOf w + G) * 256 + (length T - (parametersOf w + G)))) (result ∷ (T ++ B)))
-      ∙ ap (λ y. procedureOn cs arrays types w result o out y) (sym q)
+  pub locals-left : p .parameters + g ≤ c .k
+  locals-left =
+      let P = procedureIn image (p .me) in
+      let k : c .k ≡ length (typesFor image (p .me)) = ap (λ (y : Partial). y .0 .k) e in
+      let n = types-count (proceduresIn image) (imageIn image .arrays) P in
+      let l = known-limits image table (d .listed .known) (p .me) (d .listed .number) .2 in
+      let q = parameters-is in
+      omega arith
 
-pub rc-is : (types arrays : List ℕ) (pc : Bool) (x : Parse Block) (r : Passed) → r ≡ passedBlock types arrays pc false x → passedBlock types arrays pc false x .rc ≡ r .rc
-rc-is types arrays pc x r e = ap (λ (z : Passed). z .rc) (sym e)
+  pub procedure-on : (f o : ℕ) (out : List ℕ) (w : ℕ) (t3 : List ℕ) → p .me ≡ f → _≡_ {A = Output} (h, t1) (writes o out (0 ∷ (p .result ∷ [])))
+      → w ≡ wordWith 3 (0 * 65536 + (p .parameters + g) * 256 + (c .k - (p .parameters + g))) → t3 ≡ write o t2 w .1
+      → _≡_ {A = Whole} (record { o = c .o; locals = c .k - (p .parameters + g) }, t3) (procedureOn image f o out)
+  unfolding procedureOn procedureWords compiledProcedure
+  procedure-on f o out w t3 hf i hw j =
+      let P = procedureIn image (p .me) in
+      let T = typesFor image (p .me) in
+      let B = blockWords (bodyFor image (p .me)) in
+      let N = P .parameters + guards P in
+      let C : _≡_ {A = Partial} (c, t2) (part image (p .me) (writes o out (0 ∷ (P .result ∷ (T ++ B))))) =
+      e ∙ ap (λ (y : Output). part image (p .me) (writes (y .0) (y .1) (T ++ B))) (i ∙ ap (λ (y : ℕ). writes o out (0 ∷ (y ∷ []))) (d .result-is))
+      ∙ ap (λ (y : Output). part image (p .me) y) (sym (writes-app (0 ∷ (P .result ∷ [])) (T ++ B) o out)) in
+      ap (λ (y : List ℕ). (record { o = c .o; locals = c .k - (p .parameters + g) }, y)) (j ∙ ap (λ (y : ℕ). write o t2 y .1) hw)
+      ∙ ap (λ (y : ℕ). (record { o = c .o; locals = c .k - y }, write o t2 (wordWith 3 (0 * 65536 + y * 256 + (c .k - y))) .1)) parameters-is
+      ∙ ap (λ (y : Partial). (record { o = y .0 .o; locals = y .0 .k - N }, write o (y .1) (wordWith 3 (0 * 65536 + N * 256 + (y .0 .k - N))) .1)) C
+      ∙ ap (λ (y : Output). whole (length T - N) y) (patched o out 0 (wordWith 3 (0 * 65536 + N * 256 + (length T - N))) (P .result ∷ (T ++ B)))
+      ∙ ap (λ (y : ℕ). procedureOn image y o out) hf

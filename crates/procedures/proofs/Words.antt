@@ -8,48 +8,52 @@ use native.Mathlib.Numerals.{add-one}
 use lib.ListN.{length, getD, take, drop, length-drop}
 use lib.Seq.{drop-cons, take-all}
 use Rattle.definitions.specs.Choice.{pick}
-use Rattle.tape.specs.Tape.{Tape, write, writes}
-use Rattle.tape.specs.Laws.{writes-nil, writes-on, writes-one}
-use Rattle.copying.specs.Runs.{run-run}
+use Rattle.definitions.specs.Encoding.{wordWith, statementWordWith}
+use Rattle.definitions.specs.Compiling.{secretBoolean}
+use Rattle.writer.specs.Writing.{Output, write, writes}
+use Rattle.writer.specs.Laws.{writes-nil, writes-on, writes-one, run-run}
 
-module _ (words : List ℕ) (to j p : ℕ) (out : List ℕ) (X : Tape) (u : writes p out (take (to - j) (drop j words)) ≡ X) where
-  pub copy-done : to ≤ j → _≡_ {A = Tape} (p, out) X
+module _ (words : List ℕ) (to j p : ℕ) (out : List ℕ) (X : Output) (u : writes p out (take (to - j) (drop j words)) ≡ X) where
+  pub copy-done : to ≤ j → _≡_ {A = Output} (p, out) X
   copy-done h =
       let z : to - j ≡ 0 = omega arith in
       sym (ap (λ k. writes p out (take k (drop j words))) z ∙ writes-nil p out) ∙ u
 
-  pub copy-more : (q : ℕ) (t : List ℕ) → j < to → to ≤ length words → _≡_ {A = Tape} (q, t) (write p out (getD words j 0))
+  pub copy-more : (q : ℕ) (t : List ℕ) → j < to → to ≤ length words → _≡_ {A = Output} (q, t) (write p out (getD words j 0))
       → writes q t (take (to - (j + 1)) (drop (j + 1) words)) ≡ X
   copy-more q t h b e =
       let z : to - j ≡ suc (to - (j + 1)) = omega arith in
       let d : drop j words ≡ getD words j 0 ∷ drop (suc j) words = drop-cons words j 0 (omega arith) in
-      ap (λ (y : Tape). writes (y .0) (y .1) (take (to - (j + 1)) (drop (j + 1) words))) e
+      ap (λ (y : Output). writes (y .0) (y .1) (take (to - (j + 1)) (drop (j + 1) words))) e
       ∙ ap (λ k. writes (write p out (getD words j 0) .0) (write p out (getD words j 0) .1) (take (to - (j + 1)) (drop k words))) (add-one j)
       ∙ sym (writes-on p out (getD words j 0) (take (to - (j + 1)) (drop (suc j) words)))
       ∙ sym (ap (λ k. writes p out (take k (drop j words))) z ∙ ap (λ l. writes p out (take (suc (to - (j + 1))) l)) d) ∙ u
 
 module _ (o : ℕ) (out : List ℕ) (b : Bool) where
-  pub chosen-word : (w r : ℕ) (t : List ℕ) → b ≡ true → _≡_ {A = Tape} (r, t) (write o out w) → _≡_ {A = Tape} (r, t) (writes o out (pick b (w ∷ []) []))
+  pub chosen-word : (w r : ℕ) (t : List ℕ) → b ≡ true → _≡_ {A = Output} (r, t) (write o out w) → _≡_ {A = Output} (r, t) (writes o out (pick b (w ∷ []) []))
   chosen-word w r t h e = rw h (e ∙ sym (writes-one o out w))
 
-  pub chosen-two : (v w r : ℕ) (t : List ℕ) → b ≡ true → _≡_ {A = Tape} (r, t) (writes o out (v ∷ (w ∷ []))) → _≡_ {A = Tape} (r, t) (writes o out (pick b (v ∷ (w ∷ [])) []))
+  pub chosen-two : (v w r : ℕ) (t : List ℕ) → b ≡ true → _≡_ {A = Output} (r, t) (writes o out (v ∷ (w ∷ []))) → _≡_ {A = Output} (r, t) (writes o out (pick b (v ∷ (w ∷ [])) []))
   chosen-two v w r t h e = rw h e
 
-  pub chosen-none : (ws : List ℕ) → b ≡ false → _≡_ {A = Tape} (o, out) (writes o out (pick b ws []))
+  pub chosen-none : (ws : List ℕ) → b ≡ false → _≡_ {A = Output} (o, out) (writes o out (pick b ws []))
   chosen-none ws h = rw h (sym (writes-nil o out))
 
-pub chosen-first : (b : Bool) (x y : ℕ) → b ≡ true → x ≡ pick b x y
-chosen-first b x y h = rw h
+  module _ (rv w r : ℕ) (t : List ℕ) where
+    pub live-on : b ≡ true → w ≡ statementWordWith 0 (rv + 1) → _≡_ {A = Output} (r, t) (writes o out (w ∷ (wordWith 9 1 ∷ [])))
+        → _≡_ {A = Output} (r, t) (writes o out (pick b (statementWordWith 0 (rv + 1) ∷ (wordWith 9 1 ∷ [])) []))
+    live-on h e f = rw h (f ∙ ap (λ (z : ℕ). writes o out (z ∷ (wordWith 9 1 ∷ []))) e)
 
-pub chosen-second : (b : Bool) (x y : ℕ) → b ≡ false → y ≡ pick b x y
-chosen-second b x y h = rw h
+    pub last-on : b ≡ true → w ≡ wordWith 10 rv → _≡_ {A = Output} (r, t) (writes o out (statementWordWith 4 0 ∷ (w ∷ [])))
+        → _≡_ {A = Output} (r, t) (writes o out (pick b (statementWordWith 4 0 ∷ (wordWith 10 rv ∷ [])) []))
+    last-on h e f = rw h (f ∙ ap (λ (z : ℕ). writes o out (statementWordWith 4 0 ∷ (z ∷ []))) e)
 
 pub kept-on : (types : List ℕ) (o : ℕ) (out : List ℕ) (n : ℕ) (g : Bool) (a : ℕ) (t1 : List ℕ) (b : ℕ) (t2 : List ℕ) (r : ℕ) (t3 : List ℕ)
-    → _≡_ {A = Tape} (a, t1) (writes o out (take (n - 0) (drop 0 types))) → _≡_ {A = Tape} (b, t2) (writes a t1 (pick g (1073741827 ∷ []) []))
-    → _≡_ {A = Tape} (r, t3) (writes b t2 (take (length types - n) (drop n types)))
-    → _≡_ {A = Tape} (r, t3) (writes o out (take n types ++ (pick g (1073741827 ∷ []) [] ++ drop n types)))
+    → _≡_ {A = Output} (a, t1) (writes o out (take (n - 0) (drop 0 types))) → _≡_ {A = Output} (b, t2) (writes a t1 (pick g (secretBoolean ∷ []) []))
+    → _≡_ {A = Output} (r, t3) (writes b t2 (take (length types - n) (drop n types)))
+    → _≡_ {A = Output} (r, t3) (writes o out (take n types ++ (pick g (secretBoolean ∷ []) [] ++ drop n types)))
 kept-on types o out n g a t1 b t2 r t3 e f h =
     let z : n - 0 ≡ n = omega arith in
     let y : take (length types - n) (drop n types) ≡ drop n types = take-all (length types - n) (drop n types) (omega (arith, length-drop n types)) in
-    run-run o out a t1 (take n types) (pick g (1073741827 ∷ []) [] ++ drop n types) (r, t3) (e ∙ ap (λ k. writes o out (take k types)) z)
-    (run-run a t1 b t2 (pick g (1073741827 ∷ []) []) (drop n types) (r, t3) f (h ∙ ap (λ l. writes b t2 l) y))
+    run-run o out a t1 (take n types) (pick g (secretBoolean ∷ []) [] ++ drop n types) (r, t3) (e ∙ ap (λ k. writes o out (take k types)) z)
+    (run-run a t1 b t2 (pick g (secretBoolean ∷ []) []) (drop n types) (r, t3) f (h ∙ ap (λ l. writes b t2 l) y))

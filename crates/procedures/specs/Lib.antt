@@ -1,2 +1,1 @@
 pub mod Procedures
-pub mod Agreement

@@ -1,25 +1,84 @@
-// A compiled procedure: its word, its types, its body. `w` is the source procedure's word, `result` its result's type word, `types` the type
-// words of its variables, `body` the place of its body; `defers` tells whether any return is deferred. The others are those of the emission.
+// A compiled procedure: its word, its types, its body.
+use contexts::Context;
+use contexts::rc_block;
+use emission::Cursor;
+use emission::emit_block;
+use image_words::kinds;
+use image_words::limits::largest_level;
+use image_words::lists::narrow;
+use image_words::lists::wide;
+use image_words::made::RETURN_WORD;
+use image_words::made::SECRET_BOOLEAN;
+use image_words::made::TRUE_WORD;
+use image_words::made::block_with;
+use image_words::made::procedure_with;
+use image_words::made::statement_with;
+use image_words::made::word_with;
+use image_words::ops;
+use locals::Typed;
+use locals::type_block;
+use tables::SIZE;
+use tables::signatures::is_guarded;
+use tables::signatures::result_type;
+use writer::patch;
+use writer::put;
+use writer::put_two;
 ghost use mathlib.Core.Path.{_≡_};
-ghost use mathlib.Core.Bool.{false};
 ghost use mathlib.Core.List.{[], _∷_, _++_};
-ghost use Prim.Native.Nat.{_+_, _*_, _-_, _≤_, _<_};
-ghost use lib.Dec.{eqb};
+ghost use Prim.Native.Nat.{_+_, _-_, _≤_};
 ghost use lib.ListN.{length, take, drop};
 ghost use Rattle.definitions.specs.Choice.{pick};
-ghost use Rattle.definitions.specs.Image.{boolean, assign, modeOf, parametersOf};
-ghost use Rattle.definitions.specs.Reading.{readBlock};
-ghost use Rattle.definitions.specs.Encoding.{wordWith, statementWords};
-ghost use Rattle.tape.specs.Tape.{writes};
-ghost use Rattle.contexts.specs.Fine.{FineBlock};
-ghost use Rattle.contexts.specs.Context.{passedBlock};
-ghost use Rattle.procedures.specs.Procedures.{typesOn, innerOn, bodyOn, partsOn, procedureOn};
+ghost use Rattle.definitions.specs.Encoding.{wordWith, statementWordWith, statementsWords, blockWords};
+ghost use Rattle.definitions.specs.Compiling.{secretBoolean};
+ghost use Rattle.laws.specs.ImageIn.{imageIn};
+ghost use Rattle.tables.specs.Looking.{Listed, procedureIn};
+ghost use Rattle.writer.specs.Writing.{writes};
+ghost use Rattle.procedures.specs.Procedures.{Described, typesFor, bodyFor, part, procedureOn};
+
+// What is known of a source procedure: its number, whether it is guarded, the number of its parameters, its result's type word, the place
+// of its body, and whether any return is deferred.
+struct Source {
+    me: u32,
+    guarded: bool,
+    parameters: u32,
+    result: u32,
+    body: usize,
+    defers: bool,
+}
 
 // The place after what was written, the number of statements of the body, the number of variables.
-pub struct Part {
+struct Part {
+    o: usize,
+    n: u32,
+    k: u32,
+}
+
+// The place after a procedure, and the number of its locals.
+pub struct Emitted {
     pub o: usize,
-    pub n: u32,
-    pub k: u32,
+    pub locals: u32,
+}
+
+// The procedure numbered `me`, with the type words of its variables.
+fn describe(image: &[u32], table: &[u32; SIZE], types: &[u32], me: u32) -> Source
+    requires { ⌜ Listed (now image) (now table) me × (imageIn (now image) .form ≡ 0) × (now types ≡ procedureIn (now image) me .types) ⌝ }
+    ensures { λ r. ⌜ Described (now (image .entry)) (now (table .entry)) (now (types .entry)) r × (r .me ≡ me) ⌝ }
+{
+    let guarded = is_guarded(image, table, me);
+    let body = tables::body(table, me);
+    let first = Context {
+        pc: guarded,
+        rc: false,
+    };
+    let d = rc_block(image, table, types, me, first, body, largest_level(0));
+    Source {
+        me,
+        guarded,
+        parameters: tables::parameters(table, me),
+        result: result_type(image, table, me),
+        body,
+        defers: d.rc,
+    }
 }
 
 // The words of a slice from one index up to another.
@@ -30,26 +89,27 @@ pub fn copy_words(words: &[u32], out: &mut [u32], o: usize, from: usize, to: usi
     let mut j = from;
     let mut p = o;
     while j < to {
-        p = tape::put(out, p, words[j]);
+        p = put(out, p, words[j]);
         j += 1;
     }
     p
 }
 
 // The type word of the guard of a guarded procedure.
-pub fn emit_guard_type(out: &mut [u32], o: usize, guarded: bool) -> usize
-    ensures { λ r. ⌜ (r, now (out .exit)) ≡ writes o (now (out .entry)) (pick guarded (1073741827 ∷ []) []) ⌝ }
+fn emit_guard_type(out: &mut [u32], o: usize, guarded: bool) -> usize
+    ensures { λ r. ⌜ (r, now (out .exit)) ≡ writes o (now (out .entry)) (pick guarded (secretBoolean ∷ []) []) ⌝ }
 {
     if guarded {
-        return tape::put(out, o, 1073741827);
+        return put(out, o, SECRET_BOOLEAN);
     }
     o
 }
 
 // The source's types, the guard's between those of the n parameters and those of the locals.
-pub fn emit_kept_types(types: &[u32], out: &mut [u32], o: usize, n: usize, guarded: bool) -> usize
+fn emit_kept_types(types: &[u32], out: &mut [u32], o: usize, n: usize, guarded: bool) -> usize
     requires { ⌜ n ≤ length (now types) ⌝ }
-    ensures { λ r. ⌜ (r, now (out .exit)) ≡ writes o (now (out .entry)) (take n (now (types .entry)) ++ (pick guarded (1073741827 ∷ []) [] ++ drop n (now (types .entry)))) ⌝ }
+    ensures { λ r. ⌜ (r, now (out .exit)) ≡ writes o (now (out .entry))
+        (take n (now (types .entry)) ++ (pick guarded (secretBoolean ∷ []) [] ++ drop n (now (types .entry)))) ⌝ }
 {
     let a = copy_words(types, out, o, 0, n);
     let b = emit_guard_type(out, a, guarded);
@@ -57,79 +117,66 @@ pub fn emit_kept_types(types: &[u32], out: &mut [u32], o: usize, n: usize, guard
 }
 
 // The types of RV and LIVE where a return is deferred.
-pub fn emit_return_types(out: &mut [u32], o: usize, defers: bool, result: u32) -> usize
-    ensures { λ r. ⌜ (r, now (out .exit)) ≡ writes o (now (out .entry)) (pick defers (result ∷ (1073741827 ∷ [])) []) ⌝ }
+fn emit_return_types(out: &mut [u32], o: usize, defers: bool, result: u32) -> usize
+    ensures { λ r. ⌜ (r, now (out .exit)) ≡ writes o (now (out .entry)) (pick defers (result ∷ (secretBoolean ∷ [])) []) ⌝ }
 {
     if defers {
-        return masking::put_two(out, o, result, 1073741827);
+        return put_two(out, o, result, SECRET_BOOLEAN);
     }
     o
 }
 
 // The types of all variables.
-pub fn emit_types(
+fn emit_types(
     image: &[u32],
+    table: &[u32; SIZE],
     types: &[u32],
-    arrays: &[u32],
-    params: &[u32],
-    callees: &[u32],
     out: &mut [u32],
+    source: Source,
     o: usize,
-    w: u32,
-    result: u32,
-    defers: bool,
-    body: usize,
-    me: u32,
-    level: u32,
 ) -> usize
-    requires { ⌜ FineBlock level (now params) me (now image) body × (me ≤ length (now callees)) × (parametersOf w ≤ length (now types)) × (passedBlock (now types) (now arrays) (eqb (modeOf w) 1) false (readBlock level (now params) me (now image) body) .rc ≡ defers) ⌝ }
-    ensures { λ r. ⌜ (r, now (out .exit)) ≡ typesOn (now (callees .entry)) (now (arrays .entry)) (now (types .entry)) w result o (now (out .entry)) (readBlock level (now (params .entry)) me (now (image .entry)) body) ⌝ }
+    requires { ⌜ Described (now image) (now table) (now types) source ⌝ }
+    ensures { λ r. ⌜ (r, now (out .exit)) ≡ writes o (now (out .entry)) (typesFor (now (image .entry)) (source .me)) ⌝ }
 {
-    let n = (w % 268435456 / 256 % 256) as usize;
-    let guarded = w % 268435456 / 65536 == 1;
-    let a = emit_kept_types(types, out, o, n, guarded);
-    let b = emit_return_types(out, a, defers, result);
-    let v = locals::type_block(
-        image,
-        types,
-        arrays,
-        params,
-        callees,
-        out,
-        body,
-        b,
-        guarded,
-        false,
-        me,
-        level,
-    );
+    let a = emit_kept_types(types, out, o, wide(source.parameters), source.guarded);
+    let b = emit_return_types(out, a, source.defers, source.result);
+    let scope = locals::Scope {
+        me: source.me,
+        pc: source.guarded,
+    };
+    let first = Typed {
+        at: source.body,
+        o: b,
+        rc: false,
+    };
+    let v = type_block(image, table, types, out, scope, first, largest_level(0));
     v.o
 }
 
 // LIVE := true where a return is deferred; LIVE follows RV.
-pub fn emit_live(out: &mut [u32], o: usize, rv: u32, defers: bool) -> usize
+fn emit_live(out: &mut [u32], o: usize, rv: u32, defers: bool) -> usize
     requires { ⌜ rv ≤ 1000 ⌝ }
-    ensures { λ r. ⌜ (r, now (out .exit)) ≡ writes o (now (out .entry)) (pick defers (wordWith 6 (rv + 1) ∷ (wordWith 9 1 ∷ [])) []) ⌝ }
+    ensures { λ r. ⌜ (r, now (out .exit)) ≡ writes o (now (out .entry)) (pick defers (statementWordWith 0 (rv + 1) ∷ (wordWith 9 1 ∷ [])) []) ⌝ }
 {
     if defers {
-        return masking::put_two(out, o, 1610612736 + (rv + 1), 2415919105);
+        return put_two(out, o, statement_with(ops::ASSIGN, rv + 1), TRUE_WORD);
     }
     o
 }
 
 // return RV where a return is deferred.
-pub fn emit_last(out: &mut [u32], o: usize, rv: u32, defers: bool) -> usize
+fn emit_last(out: &mut [u32], o: usize, rv: u32, defers: bool) -> usize
     requires { ⌜ rv ≤ 1000 ⌝ }
-    ensures { λ r. ⌜ (r, now (out .exit)) ≡ writes o (now (out .entry)) (pick defers (1610874880 ∷ (wordWith 10 rv ∷ [])) []) ⌝ }
+    ensures { λ r. ⌜ (r, now (out .exit)) ≡ writes o (now (out .entry)) (pick defers (statementWordWith 4 0 ∷ (wordWith 10 rv ∷ [])) []) ⌝ }
 {
     if defers {
-        return masking::put_two(out, o, 1610874880, 2684354560 + rv);
+        return put_two(out, o, RETURN_WORD, word_with(kinds::VARIABLE, rv));
     }
     o
 }
 
 // The number of guards: 1 for a guarded procedure.
-pub fn guards_of(guarded: bool) -> u32
+fn guards_of(guarded: bool) -> u32
     ensures { λ r. ⌜ (r ≡ pick guarded 1 0) × (r ≤ 1) ⌝ }
 {
     if guarded {
@@ -139,7 +186,7 @@ pub fn guards_of(guarded: bool) -> u32
 }
 
 // The number of variables that deferred returns take.
-pub fn deferred_of(defers: bool) -> u32
+fn deferred_of(defers: bool) -> u32
     ensures { λ r. ⌜ (r ≡ pick defers 2 0) × (r ≤ 2) ⌝ }
 {
     if defers {
@@ -148,8 +195,8 @@ pub fn deferred_of(defers: bool) -> u32
     0
 }
 
-// The number of statements before the source's own.
-pub fn opening_of(defers: bool) -> u32
+// The number of statements before the source's own, and of those after them.
+fn opening_of(defers: bool) -> u32
     ensures { λ r. ⌜ (r ≡ pick defers 1 0) × (r ≤ 1) ⌝ }
 {
     if defers {
@@ -159,7 +206,7 @@ pub fn opening_of(defers: bool) -> u32
 }
 
 // The first variable that moves: a guarded procedure's first local; none of an open one.
-pub fn first_moved(guarded: bool, n: u32, size: u32) -> u32
+fn first_moved(guarded: bool, n: u32, size: u32) -> u32
     ensures { λ r. ⌜ r ≡ pick guarded n size ⌝ }
 {
     if guarded {
@@ -169,53 +216,38 @@ pub fn first_moved(guarded: bool, n: u32, size: u32) -> u32
 }
 
 // The statements of the body: LIVE := true, the source's own, return RV.
-pub fn emit_inner(
+fn emit_inner(
     image: &[u32],
+    table: &[u32; SIZE],
     types: &[u32],
-    arrays: &[u32],
-    params: &[u32],
-    callees: &[u32],
     out: &mut [u32],
+    source: Source,
     o: usize,
-    w: u32,
-    result: u32,
-    defers: bool,
-    body: usize,
-    me: u32,
-    level: u32,
 ) -> Part
-    requires { ⌜ FineBlock level (now params) me (now image) body × (me ≤ length (now callees)) × (parametersOf w ≤ length (now types)) × (passedBlock (now types) (now arrays) (eqb (modeOf w) 1) false (readBlock level (now params) me (now image) body) .rc ≡ defers) × (length (now image) ≤ 4096) × (length (now types) ≤ 600) ⌝ }
-    ensures { λ r. ⌜ ((r, now (out .exit)) ≡ innerOn (now (callees .entry)) (now (arrays .entry)) (now (types .entry)) w result o (now (out .entry)) (readBlock level (now (params .entry)) me (now (image .entry)) body)) × (r .n ≤ 10000) × (r .k ≤ 10000) ⌝ }
+    requires { ⌜ Described (now image) (now table) (now types) source ⌝ }
+    ensures { λ r. ⌜ ((r, now (out .exit)) ≡ part (now (image .entry)) (source .me) (writes o (now (out .entry)) (statementsWords (bodyFor (now (image .entry)) (source .me)))))
+        × (r .n ≤ 10000) × (r .k ≤ 10000) ⌝ }
 {
-    let n = w % 268435456 / 256 % 256;
-    let guarded = w % 268435456 / 65536 == 1;
-    let size = types.len() as u32;
-    let rv = size + guards_of(guarded);
-    let first = first_moved(guarded, n, size);
-    let k = rv + deferred_of(defers);
-    let s = opening_of(defers);
-    let q = emit_live(out, o, rv, defers);
-    let c = emission::emit_block(
-        image,
-        types,
-        arrays,
-        params,
-        callees,
-        out,
-        body,
-        q,
-        s,
-        k,
-        guarded,
-        n,
-        false,
-        first,
+    let size = narrow(types.len());
+    let rv = size + guards_of(source.guarded);
+    let s = opening_of(source.defers);
+    let q = emit_live(out, o, rv, source.defers);
+    let scope = emission::Scope {
+        me: source.me,
+        pc: source.guarded,
+        arm: source.parameters,
+        first: first_moved(source.guarded, source.parameters, size),
         rv,
-        me,
-        level,
-    );
-    let p = c.o;
-    let r = emit_last(out, p, rv, defers);
+    };
+    let first = Cursor {
+        at: source.body,
+        o: q,
+        n: s,
+        k: rv + deferred_of(source.defers),
+        rc: false,
+    };
+    let c = emit_block(image, table, types, out, scope, first, largest_level(0));
+    let r = emit_last(out, c.o, rv, source.defers);
     Part {
         o: r,
         n: c.n + s,
@@ -224,144 +256,59 @@ pub fn emit_inner(
 }
 
 // The body with its count, which is written once it is known.
-pub fn emit_closed(
+fn emit_body(
     image: &[u32],
+    table: &[u32; SIZE],
     types: &[u32],
-    arrays: &[u32],
-    params: &[u32],
-    callees: &[u32],
     out: &mut [u32],
+    source: Source,
     o: usize,
-    w: u32,
-    result: u32,
-    defers: bool,
-    body: usize,
-    me: u32,
-    level: u32,
 ) -> Part
-    requires { ⌜ FineBlock level (now params) me (now image) body × (me ≤ length (now callees)) × (parametersOf w ≤ length (now types)) × (passedBlock (now types) (now arrays) (eqb (modeOf w) 1) false (readBlock level (now params) me (now image) body) .rc ≡ defers) × (length (now image) ≤ 4096) × (length (now types) ≤ 600) ⌝ }
-    ensures { λ r. ⌜ ((r, now (out .exit)) ≡ bodyOn (now (callees .entry)) (now (arrays .entry)) (now (types .entry)) w result o (now (out .entry)) (readBlock level (now (params .entry)) me (now (image .entry)) body)) × (r .n ≤ 10000) × (r .k ≤ 10000) ⌝ }
+    requires { ⌜ Described (now image) (now table) (now types) source ⌝ }
+    ensures { λ r. ⌜ ((r, now (out .exit)) ≡ part (now (image .entry)) (source .me) (writes o (now (out .entry)) (blockWords (bodyFor (now (image .entry)) (source .me)))))
+        × (r .k ≤ 10000) ⌝ }
 {
-    let p = tape::put(out, o, 0);
-    let c = emit_inner(
-        image,
-        types,
-        arrays,
-        params,
-        callees,
-        out,
-        p,
-        w,
-        result,
-        defers,
-        body,
-        me,
-        level,
-    );
-    let m = c.n;
-    tape::patch(out, o, 1342177280 + m);
+    let p = put(out, o, 0);
+    let c = emit_inner(image, table, types, out, source, p);
+    patch(out, o, block_with(c.n));
     c
 }
 
-// A procedure; its word holds the number of its locals and is written last.
-pub fn emit_procedure(
+// The types and the body.
+fn emit_parts(
     image: &[u32],
+    table: &[u32; SIZE],
     types: &[u32],
-    arrays: &[u32],
-    params: &[u32],
-    callees: &[u32],
     out: &mut [u32],
+    source: Source,
     o: usize,
-    w: u32,
-    result: u32,
-    body: usize,
-    me: u32,
-    level: u32,
 ) -> Part
-    requires { ⌜ FineBlock level (now params) me (now image) body × (me ≤ length (now callees)) × (parametersOf w ≤ length (now types)) × (length (now image) ≤ 4096) × (length (now types) ≤ 600) ⌝ }
-    ensures { λ r. ⌜ ((r, now (out .exit)) ≡ procedureOn (now (callees .entry)) (now (arrays .entry)) (now (types .entry)) w result o (now (out .entry)) (readBlock level (now (params .entry)) me (now (image .entry)) body)) × (r .k ≤ 10000) ⌝ }
+    requires { ⌜ Described (now image) (now table) (now types) source ⌝ }
+    ensures { λ r. ⌜ ((r, now (out .exit)) ≡ part (now (image .entry)) (source .me)
+        (writes o (now (out .entry)) (typesFor (now (image .entry)) (source .me) ++ blockWords (bodyFor (now (image .entry)) (source .me)))))
+        × (r .k ≤ 10000) ⌝ }
 {
-    let guarded = w % 268435456 / 65536 == 1;
-    let d = contexts::rc_block(
-        image,
-        types,
-        arrays,
-        params,
-        body,
-        guarded,
-        false,
-        me,
-        level,
-    );
-    let h = masking::put_two(out, o, 0, result);
-    let b = emit_parts(
-        image,
-        types,
-        arrays,
-        params,
-        callees,
-        out,
-        h,
-        w,
-        result,
-        d.rc,
-        body,
-        me,
-        level,
-    );
-    let k = b.k;
-    let s = w % 268435456 / 256 % 256 + guards_of(guarded);
-    tape::patch(out, o, 805306368 + s * 255 + k);
-    b
+    let t = emit_types(image, table, types, out, source, o);
+    emit_body(image, table, types, out, source, t)
 }
 
-// The types and the body.
-pub fn emit_parts(
+// The procedure numbered `me`, with the type words of its variables; its word holds the number of its locals and is written last.
+pub fn emit_procedure(
     image: &[u32],
+    table: &[u32; SIZE],
     types: &[u32],
-    arrays: &[u32],
-    params: &[u32],
-    callees: &[u32],
     out: &mut [u32],
-    o: usize,
-    w: u32,
-    result: u32,
-    defers: bool,
-    body: usize,
     me: u32,
-    level: u32,
-) -> Part
-    requires { ⌜ FineBlock level (now params) me (now image) body × (me ≤ length (now callees)) × (parametersOf w ≤ length (now types)) × (passedBlock (now types) (now arrays) (eqb (modeOf w) 1) false (readBlock level (now params) me (now image) body) .rc ≡ defers) × (length (now image) ≤ 4096) × (length (now types) ≤ 600) ⌝ }
-    ensures { λ r. ⌜ ((r, now (out .exit)) ≡ partsOn (now (callees .entry)) (now (arrays .entry)) (now (types .entry)) w result o (now (out .entry)) (readBlock level (now (params .entry)) me (now (image .entry)) body)) × (r .k ≤ 10000) ⌝ }
+    o: usize,
+) -> Emitted
+    requires { ⌜ Listed (now image) (now table) me × (imageIn (now image) .form ≡ 0) × (now types ≡ procedureIn (now image) me .types) ⌝ }
+    ensures { λ r. ⌜ (r, now (out .exit)) ≡ procedureOn (now (image .entry)) me o (now (out .entry)) ⌝ }
 {
-    let t = emit_types(
-        image,
-        types,
-        arrays,
-        params,
-        callees,
-        out,
-        o,
-        w,
-        result,
-        defers,
-        body,
-        me,
-        level,
-    );
-    emit_closed(
-        image,
-        types,
-        arrays,
-        params,
-        callees,
-        out,
-        t,
-        w,
-        result,
-        defers,
-        body,
-        me,
-        level,
-    )
+    let source = describe(image, table, types, me);
+    let h = put_two(out, o, 0, source.result);
+    let b = emit_parts(image, table, types, out, source, h);
+    let parameters = source.parameters + guards_of(source.guarded);
+    let locals = b.k - parameters;
+    patch(out, o, procedure_with(parameters, locals));
+    Emitted { o: b.o, locals }
 }

@@ -16,7 +16,7 @@ use Rattle.definitions.specs.Reading.{readArrays, readRest, readImage}
 use Rattle.definitions.specs.Encoding.{wordWith, statementCount, statementsWords, blockWords, procedureWords}
 use Rattle.definitions.specs.Encoding.{proceduresWords, imageWords}
 use Rattle.laws.specs.Fits.{AllTypes, no-types, more-types, FitsArrays, no-arrays, more-arrays, FitsProcedure}
-use Rattle.laws.specs.Fits.{FitsProcedures, no-procedures, more-procedures, arityOf, Known, FitsImage}
+use Rattle.laws.specs.Fits.{FitsProcedures, no-procedures, more-procedures, arityOf, Arities, FitsImage}
 use Rattle.laws.specs.ReadImages.{known-next}
 use Rattle.laws.specs.Spelled.{On, on-first, on-nothing, on-split, on-whole}
 use Rattle.readback.specs.Like.{LikeBlock, LikeProcedure, LikeProcedures, like-empty, like-next, LikeImage}
@@ -82,7 +82,7 @@ largest-locals form n = go (eqb form 0)
     go false h = omega arith
 
 pub back-procedure :
-    (image : List ℕ) → length image < 268435456 → (form : ℕ) (params : List ℕ) (me : ℕ) (arity : ℕ → ℕ) → Known params me arity → (p : Procedure) → FitsProcedure form arity me p
+    (image : List ℕ) → length image < 268435456 → (form : ℕ) (params : List ℕ) (me : ℕ) (arity : ℕ → ℕ) → Arities params me arity → (p : Procedure) → FitsProcedure form arity me p
     → (at next : ℕ) → On image at (procedureWords p) next → Reads (LikeProcedure p) next (readProcedure form params me image at)
 unfolding readProcedure procedureWords blockWords
 back-procedure image small form params me arity known p fit at next o =
@@ -133,7 +133,7 @@ then-procedures image form params me p ps at m next n e r s =
 
 pub back-procedures :
     (image : List ℕ) → length image < 268435456 → (form : ℕ) (arity : ℕ → ℕ) {me : ℕ} {ps : List Procedure} → FitsProcedures form arity me ps
-    → (params : List ℕ) → Known params me arity → me + length ps ≤ length params
+    → (params : List ℕ) → Arities params me arity → me + length ps ≤ length params
     → (at next : ℕ) → On image at (proceduresWords ps) next → Reads (LikeProcedures ps) next (readProcedures (length ps) form params me image at)
 unfolding readProcedures proceduresWords flatMap
 back-procedures image small form arity no-procedures params known room at next o = reads (on-nothing o) like-empty

@@ -18,7 +18,7 @@ use Rattle.definitions.specs.Encoding.{statementCount, statementWords, statemen
 use Rattle.laws.specs.Fits.{FitsExpression, fit-constant, fit-boolean, fit-variable, fit-cell, fit-unary, fit-binary}
 use Rattle.laws.specs.Fits.{fit-select, FitsAll, fit-none, fit-more, FitsStatement, fit-assign, fit-store}
 use Rattle.laws.specs.Fits.{fit-conditional, fit-loop, fit-return, fit-call, FitsBlock, fit-block, FitsStatements}
-use Rattle.laws.specs.Fits.{fit-done, fit-sequence, Known}
+use Rattle.laws.specs.Fits.{fit-done, fit-sequence, Arities}
 use Rattle.laws.specs.Spelled.{On, on-first, on-nothing, on-split, on-length}
 use Rattle.readback.specs.Like.{LikeExpression, like-constant, like-boolean, like-variable, like-cell, like-unary}
 use Rattle.readback.specs.Like.{like-binary, like-select, LikeAll, like-none, like-more, LikeStatement}
@@ -169,7 +169,7 @@ module _ (operand : Reader Expression) (block : Reader Block) (params : List ℕ
       rw (e, op-of 5 (f * 256 + x) (omega arith) (omega arith), called-of f x h g, result-of f x h g) (reads-then r (λ j k q z. reads q (like-call z)))
 
 -- Statements and blocks of the procedure numbered `me`, in an image whose length a count can hold.
-module _ (image : List ℕ) (small : length image < 268435456) (params : List ℕ) (me : ℕ) (arity : ℕ → ℕ) (known : Known params me arity) where
+module _ (image : List ℕ) (small : length image < 268435456) (params : List ℕ) (me : ℕ) (arity : ℕ → ℕ) (known : Arities params me arity) where
   mutual
     unfolding readStatement readBlock readStatements statementWords statementsWords statementCount
 

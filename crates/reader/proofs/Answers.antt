@@ -1,7 +1,7 @@
 -- How one word is answered, and what of an answer does not show. Assumes nothing.
-use mathlib.Core.Path.{_≡_, refl, sym, _∙_}
+use mathlib.Core.Path.{_≡_, refl, sym, ap, _∙_}
 use mathlib.Core.Bool.{Bool, true, false}
-use mathlib.Core.List.{List}
+use mathlib.Core.List.{List, [], _∷_, _++_}
 use Prim.Native.Nat.{ℕ, suc, _+_, _-_, _≤_, _<_}
 use native.Mathlib.Omega.{arith}
 use borrow.Author.Tests.{leb-true, leb-false, le-leb, lt-leb}
@@ -10,6 +10,8 @@ use lib.ListN.{length, getD}
 use Rattle.definitions.specs.Choice.{pick}
 use Rattle.definitions.specs.Image.{rawWord}
 use Rattle.definitions.specs.Reading.{Parse, got, refused, andThen, onWord}
+use Rattle.laws.specs.Tests.{false-true}
+use Rattle.laws.specs.Parses.{ok}
 use Rattle.reader.specs.declared.Read.{Read}
 use Rattle.reader.specs.declared.Read.the-variants.{At, Refused}
 use Rattle.reader.specs.Answers.{answer, wordAt, rawAnswer}
@@ -76,3 +78,13 @@ raw-answer w image at make = go (leb (length image) at) (rawWord (getD image at 
     go true g = refl
     go false true = refl
     go false false = refl
+
+-- ---- what was refused was not read
+
+pub not-got : {A : Type 0} {C : Type 0} (x : Parse A) (n q : ℕ) (a : A) (m : ℕ) → x ≡ refused n q → x ≡ got a m → C
+unfolding ok
+not-got x n q a m e f = false-true (ap ok (sym e ∙ f))
+
+pub append-none : {A : Type 0} (xs : List A) → xs ++ [] ≡ xs
+append-none [] = refl
+append-none (x ∷ xs) = ap (λ z. x ∷ z) (append-none xs)

@@ -16,7 +16,9 @@ use Rattle.laws.specs.ExpressionInversion.{expression-step}
 use Rattle.laws.specs.WordTests.{select-kind, kinds}
 use Rattle.reader.specs.declared.Read.{Read}
 use Rattle.reader.specs.declared.Read.the-variants.{At, Refused}
-use Rattle.reader.specs.Answers.{answer, wordAt, rawAnswer, readArgumentsAt}
+use Rattle.image_words.specs.Read.{argumentsAt}
+use Rattle.image_words.specs.Parts.{told, not-told}
+use Rattle.reader.specs.Answers.{answer, wordAt, rawAnswer}
 use Rattle.reader.specs.AnswerLaws.{got-of, refused-of, answer-got, answer-refused}
 use Rattle.reader.proofs.Answers.{one-more, answer-last, word-of, word-end, word-bad, word-good, raw-answer}
 
@@ -150,102 +152,104 @@ module _ (l : ℕ) (image : List ℕ) (at : ℕ) (r : Read) (e : r ≡ wordAt im
         after : next ≡ at + 1
         after = word-of image at r w next e d .2
 
-        pub expression-raw : (x : Read) → w / 268435456 ≡ 8 → x ≡ rawAnswer w image next → x ≡ answer (getD image at 0) (readExpression l image at)
-        expression-raw x k q =
-            shown x (q ∙ rw (k, after) (sym (raw-answer w image (at + 1) (λ v. constant at v))))
+        -- by the kind of its word
+        module _ (k : ℕ) (hk : k ≡ kindOf w) where
+          pub expression-raw : (x : Read) → k ≡ 8 → x ≡ rawAnswer w image next → x ≡ answer (getD image at 0) (readExpression l image at)
+          expression-raw x h q =
+              shown x (q ∙ rw (told hk h, after) (sym (raw-answer w image (at + 1) (λ v. constant at v))))
 
-        pub expression-plain : (w / 268435456 ≡ 8 → ⊥) → w / 268435456 ≤ 10 → At w next ≡ answer (getD image at 0) (readExpression l image at)
-        expression-plain n8 le =
-            shown (At w next) (ap (λ z. At w z) after ∙ none-at (λ a. readExpression (l - 1) image a) image at w w good n8 le)
+          pub expression-plain : (k ≡ 8 → ⊥) → k ≤ 10 → At w next ≡ answer (getD image at 0) (readExpression l image at)
+          expression-plain n8 le =
+              shown (At w next) (ap (λ z. At w z) after ∙ none-at (λ a. readExpression (l - 1) image a) image at w w good (not-told hk n8) (rw hk at le))
 
-        module _ (more : 10 < w / 268435456) (r1 : Read) (e1 : r1 ≡ answer (getD image next 0) (readExpression (l - 1) image next)) where
-          first : readExpression (l - 1) image next ≡ readExpression (l - 1) image (at + 1)
-          first = rw after
+          module _ (more : 10 < k) (r1 : Read) (e1 : r1 ≡ answer (getD image next 0) (readExpression (l - 1) image next)) where
+            first : readExpression (l - 1) image next ≡ readExpression (l - 1) image (at + 1)
+            first = rw after
 
-          pub expression-one-bad : (n q : ℕ) → r1 ≡ Refused n q → r1 ≡ answer (getD image at 0) (readExpression l image at)
-          expression-one-bad n q d1 =
-              shown r1 (d1 ∙ answer-refused w (expressionAt (λ a. readExpression (l - 1) image a) image at w) n q
-              (first-refused (λ a. readExpression (l - 1) image a) image at w w good more n q
-              (sym first ∙ refused-of (getD image next 0) (readExpression (l - 1) image next) r1 n q e1 d1)))
+            pub expression-one-bad : (n q : ℕ) → r1 ≡ Refused n q → r1 ≡ answer (getD image at 0) (readExpression l image at)
+            expression-one-bad n q d1 =
+                shown r1 (d1 ∙ answer-refused w (expressionAt (λ a. readExpression (l - 1) image a) image at w) n q
+                (first-refused (λ a. readExpression (l - 1) image a) image at w w good (rw hk at more) n q
+                (sym first ∙ refused-of (getD image next 0) (readExpression (l - 1) image next) r1 n q e1 d1)))
 
-          module _ (v1 n1 : ℕ) (d1 : r1 ≡ At v1 n1) where
-            pub expression-one : w / 268435456 ≤ 12 → At w n1 ≡ answer (getD image at 0) (readExpression l image at)
-            expression-one le =
-                let (a, q) = got-of (getD image next 0) (readExpression (l - 1) image next) r1 v1 n1 e1 d1 in
-                shown (At w n1) (answer-got w (readExpression (l - 1) image (at + 1)) a n1 (sym first ∙ q)
-                ∙ sym (one-at (λ a. readExpression (l - 1) image a) image at w w good more le))
+            module _ (v1 n1 : ℕ) (d1 : r1 ≡ At v1 n1) where
+              pub expression-one : k ≤ 12 → At w n1 ≡ answer (getD image at 0) (readExpression l image at)
+              expression-one le =
+                  let (a, q) = got-of (getD image next 0) (readExpression (l - 1) image next) r1 v1 n1 e1 d1 in
+                  shown (At w n1) (answer-got w (readExpression (l - 1) image (at + 1)) a n1 (sym first ∙ q)
+                  ∙ sym (one-at (λ a. readExpression (l - 1) image a) image at w w good (rw hk at more) (rw hk at le)))
 
-            module _ (much : 12 < w / 268435456) (r2 : Read) (e2 : r2 ≡ answer (getD image n1 0) (readExpression (l - 1) image n1)) where
-              pub expression-two-bad : (n q : ℕ) → r2 ≡ Refused n q → r2 ≡ answer (getD image at 0) (readExpression l image at)
-              expression-two-bad n q d2 =
-                  let (a, p) = got-of (getD image next 0) (readExpression (l - 1) image next) r1 v1 n1 e1 d1 in
-                  shown r2 (d2 ∙ second-refused (λ a. readExpression (l - 1) image a) image at w w good much a n1 n q (sym first ∙ p)
-                  (refused-of (getD image n1 0) (readExpression (l - 1) image n1) r2 n q e2 d2))
-
-              module _ (v2 n2 : ℕ) (d2 : r2 ≡ At v2 n2) where
-                pub expression-two : w / 268435456 ≡ 13 → At w n2 ≡ answer (getD image at 0) (readExpression l image at)
-                expression-two k =
+              module _ (much : 12 < k) (r2 : Read) (e2 : r2 ≡ answer (getD image n1 0) (readExpression (l - 1) image n1)) where
+                pub expression-two-bad : (n q : ℕ) → r2 ≡ Refused n q → r2 ≡ answer (getD image at 0) (readExpression l image at)
+                expression-two-bad n q d2 =
                     let (a, p) = got-of (getD image next 0) (readExpression (l - 1) image next) r1 v1 n1 e1 d1 in
-                    let (b, q) = got-of (getD image n1 0) (readExpression (l - 1) image n1) r2 v2 n2 e2 d2 in
-                    shown (At w n2) (answer-got w (andThen (readExpression (l - 1) image (at + 1)) (λ e n. readExpression (l - 1) image n)) b n2
-                    (ap (λ z. andThen z (λ e n. readExpression (l - 1) image n)) (sym first ∙ p) ∙ q)
-                    ∙ sym (two-at (λ a. readExpression (l - 1) image a) image at w w k))
+                    shown r2 (d2 ∙ second-refused (λ a. readExpression (l - 1) image a) image at w w good (rw hk at much) a n1 n q (sym first ∙ p)
+                    (refused-of (getD image n1 0) (readExpression (l - 1) image n1) r2 n q e2 d2))
 
-                module _ (n13 : w / 268435456 ≡ 13 → ⊥) (r3 : Read) (e3 : r3 ≡ answer (getD image n2 0) (readExpression (l - 1) image n2)) where
-                  operands : Parse Expression
-                  operands =
-                      andThen (readExpression (l - 1) image (at + 1))
-                      (λ c n. andThen (readExpression (l - 1) image n) (λ e m. readExpression (l - 1) image m))
-
-                  last : operands ≡ readExpression (l - 1) image n2
-                  unfolding operands
-                  last =
+                module _ (v2 n2 : ℕ) (d2 : r2 ≡ At v2 n2) where
+                  pub expression-two : k ≡ 13 → At w n2 ≡ answer (getD image at 0) (readExpression l image at)
+                  expression-two h =
                       let (a, p) = got-of (getD image next 0) (readExpression (l - 1) image next) r1 v1 n1 e1 d1 in
                       let (b, q) = got-of (getD image n1 0) (readExpression (l - 1) image n1) r2 v2 n2 e2 d2 in
-                      ap (λ z. andThen z (λ c n. andThen (readExpression (l - 1) image n) (λ e m. readExpression (l - 1) image m))) (sym first ∙ p)
-                      ∙ ap (λ z. andThen z (λ e m. readExpression (l - 1) image m)) q
+                      shown (At w n2) (answer-got w (andThen (readExpression (l - 1) image (at + 1)) (λ e n. readExpression (l - 1) image n)) b n2
+                      (ap (λ z. andThen z (λ e n. readExpression (l - 1) image n)) (sym first ∙ p) ∙ q)
+                      ∙ sym (two-at (λ a. readExpression (l - 1) image a) image at w w (told hk h)))
 
-                  shown-three : (x : Read) → x ≡ answer w operands → x ≡ answer (getD image at 0) (readExpression l image at)
-                  unfolding operands
-                  shown-three x q = shown x (q ∙ sym (three-at (λ a. readExpression (l - 1) image a) image at w w good much n13))
+                  module _ (n13 : k ≡ 13 → ⊥) (r3 : Read) (e3 : r3 ≡ answer (getD image n2 0) (readExpression (l - 1) image n2)) where
+                    operands : Parse Expression
+                    operands =
+                        andThen (readExpression (l - 1) image (at + 1))
+                        (λ c n. andThen (readExpression (l - 1) image n) (λ e m. readExpression (l - 1) image m))
 
-                  pub expression-three-bad : (n q : ℕ) → r3 ≡ Refused n q → r3 ≡ answer (getD image at 0) (readExpression l image at)
-                  expression-three-bad n q d3 =
-                      shown-three r3 (d3 ∙ answer-refused w operands n q
-                      (last ∙ refused-of (getD image n2 0) (readExpression (l - 1) image n2) r3 n q e3 d3))
+                    last : operands ≡ readExpression (l - 1) image n2
+                    unfolding operands
+                    last =
+                        let (a, p) = got-of (getD image next 0) (readExpression (l - 1) image next) r1 v1 n1 e1 d1 in
+                        let (b, q) = got-of (getD image n1 0) (readExpression (l - 1) image n1) r2 v2 n2 e2 d2 in
+                        ap (λ z. andThen z (λ c n. andThen (readExpression (l - 1) image n) (λ e m. readExpression (l - 1) image m))) (sym first ∙ p)
+                        ∙ ap (λ z. andThen z (λ e m. readExpression (l - 1) image m)) q
 
-                  pub expression-three : (v3 n3 : ℕ) → r3 ≡ At v3 n3 → At w n3 ≡ answer (getD image at 0) (readExpression l image at)
-                  expression-three v3 n3 d3 =
-                      let (c, q) = got-of (getD image n2 0) (readExpression (l - 1) image n2) r3 v3 n3 e3 d3 in
-                      shown-three (At w n3) (answer-got w operands c n3 (last ∙ q))
+                    shown-three : (x : Read) → x ≡ answer w operands → x ≡ answer (getD image at 0) (readExpression l image at)
+                    unfolding operands
+                    shown-three x q = shown x (q ∙ sym (three-at (λ a. readExpression (l - 1) image a) image at w w good (rw hk at much) (not-told hk n13)))
+
+                    pub expression-three-bad : (n q : ℕ) → r3 ≡ Refused n q → r3 ≡ answer (getD image at 0) (readExpression l image at)
+                    expression-three-bad n q d3 =
+                        shown-three r3 (d3 ∙ answer-refused w operands n q
+                        (last ∙ refused-of (getD image n2 0) (readExpression (l - 1) image n2) r3 n q e3 d3))
+
+                    pub expression-three : (v3 n3 : ℕ) → r3 ≡ At v3 n3 → At w n3 ≡ answer (getD image at 0) (readExpression l image at)
+                    expression-three v3 n3 d3 =
+                        let (c, q) = got-of (getD image n2 0) (readExpression (l - 1) image n2) r3 v3 n3 e3 d3 in
+                        shown-three (At w n3) (answer-got w operands c n3 (last ∙ q))
 
 pub ruleset expression·rules = (expression-end, expression-bad, expression-deep, expression-raw, expression-plain, expression-one-bad, expression-one, expression-two-bad, expression-two, expression-three-bad, expression-three)
 
 -- ---- the values of a call: what is left of them
 
-pub arguments-begin : (n l : ℕ) (image : List ℕ) (at : ℕ) → answer 0 (readArgumentsAt (n - 0) l image at) ≡ answer 0 (readArgumentsAt n l image at)
+pub arguments-begin : (n l : ℕ) (image : List ℕ) (at : ℕ) → answer 0 (argumentsAt (n - 0) l image at) ≡ answer 0 (argumentsAt n l image at)
 arguments-begin n l image at = let e : n - 0 ≡ n = omega arith in rw e
 
-module _ (n k l : ℕ) (image : List ℕ) (a : ℕ) (X : Read) (inv : answer 0 (readArgumentsAt (n - k) l image a) ≡ X) where
+module _ (n k l : ℕ) (image : List ℕ) (a : ℕ) (X : Read) (inv : answer 0 (argumentsAt (n - k) l image a) ≡ X) where
   pub arguments-done : n ≤ k → At 0 a ≡ X
-  unfolding readArgumentsAt readArguments answer
+  unfolding argumentsAt readArguments answer
   arguments-done h = let e : n - k ≡ 0 = omega arith in rw e at inv
 
   module _ (h : k < n) (r : Read) (e : r ≡ answer (getD image a 0) (readExpression l image a)) where
-    step : answer 0 (andThen (readExpression l image a) (λ e m. andThen (readArgumentsAt (n - (k + 1)) l image m) (λ es o. got (e ∷ es) o))) ≡ X
-    unfolding readArgumentsAt readArguments
+    step : answer 0 (andThen (readExpression l image a) (λ e m. andThen (argumentsAt (n - (k + 1)) l image m) (λ es o. got (e ∷ es) o))) ≡ X
+    unfolding argumentsAt readArguments
     step = rw (one-more n k h) at inv
 
     pub arguments-bad : (m q : ℕ) → r ≡ Refused m q → r ≡ X
     unfolding answer
     arguments-bad m q d =
-        d ∙ sym (ap (λ z. answer 0 (andThen z (λ e m. andThen (readArgumentsAt (n - (k + 1)) l image m) (λ es o. got (e ∷ es) o))))
+        d ∙ sym (ap (λ z. answer 0 (andThen z (λ e m. andThen (argumentsAt (n - (k + 1)) l image m) (λ es o. got (e ∷ es) o))))
         (refused-of (getD image a 0) (readExpression l image a) r m q e d)) ∙ step
 
-    pub arguments-more : (v next : ℕ) → r ≡ At v next → answer 0 (readArgumentsAt (n - (k + 1)) l image next) ≡ X
+    pub arguments-more : (v next : ℕ) → r ≡ At v next → answer 0 (argumentsAt (n - (k + 1)) l image next) ≡ X
     arguments-more v next d =
         let (x, q) = got-of (getD image a 0) (readExpression l image a) r v next e d in
-        sym (answer-last 0 (readArgumentsAt (n - (k + 1)) l image next) (λ es. x ∷ es))
-        ∙ sym (ap (λ z. answer 0 (andThen z (λ e m. andThen (readArgumentsAt (n - (k + 1)) l image m) (λ es o. got (e ∷ es) o)))) q) ∙ step
+        sym (answer-last 0 (argumentsAt (n - (k + 1)) l image next) (λ es. x ∷ es))
+        ∙ sym (ap (λ z. answer 0 (andThen z (λ e m. andThen (argumentsAt (n - (k + 1)) l image m) (λ es o. got (e ∷ es) o)))) q) ∙ step
 
 pub ruleset arguments·rules = (arguments-begin, arguments-done, arguments-bad, arguments-more)

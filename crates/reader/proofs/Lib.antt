@@ -1,6 +1,7 @@
 pub mod Answers
-pub mod TableRules
+pub mod EndRules
 pub mod ExpressionRules
 pub mod StatementRules
+pub mod ArrayRules
 pub mod ProcedureRules
 pub mod ImageRules

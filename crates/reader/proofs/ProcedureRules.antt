@@ -1,17 +1,16 @@
--- The ways in which the functions that read type words, procedures and array words return: one law each, its premises what the code knows
+-- The ways in which the functions that read type words and procedures return: one law each, its premises what the code knows
 -- there. Assumes nothing.
 use mathlib.Core.Path.{_≡_, refl, sym, ap, _∙_}
 use mathlib.Core.Bool.{Bool, true, false, not}
 use mathlib.Core.List.{List, _∷_}
-use Prim.Native.Nat.{ℕ, _+_, _-_, _/_, _%_, _≤_, _<_}
+use Prim.Native.Nat.{ℕ, _+_, _-_, _≤_, _<_}
 use native.Mathlib.Omega.{arith}
 use borrow.Author.Tests.{not-true, not-false}
 use lib.ListN.{getD}
-use Rattle.definitions.specs.Image.{arrayLength, arrayWord, typeWord, procedureWord, parametersOf, localsOf, modeOf}
+use Rattle.definitions.specs.Image.{typeWord, procedureWord, parametersOf, localsOf, modeOf}
 use Rattle.definitions.specs.Image.{largestLevel, Block, Procedure}
-use Rattle.definitions.specs.Reading.{Parse, got, refused, andThen, onWord, readTypes, readArrays, readBlock}
+use Rattle.definitions.specs.Reading.{Parse, got, refused, andThen, onWord, readTypes, readBlock}
 use Rattle.definitions.specs.Reading.{readProcedure}
-use Rattle.laws.specs.WordTests.{array-limits}
 use Rattle.reader.specs.declared.Read.{Read}
 use Rattle.reader.specs.declared.Read.the-variants.{At, Refused}
 use Rattle.reader.specs.Answers.{answer, wordAt, bodyAnswer}
@@ -52,48 +51,13 @@ module _ (n k : ℕ) (image : List ℕ) (a : ℕ) (X : Read) (inv : answer 0 (re
 
 pub ruleset types·rules = (types-begin, types-done, types-end, types-bad, types-more)
 
--- ---- array words: what is left of them
-
-pub arrays-begin : (n : ℕ) (image : List ℕ) (at : ℕ) → answer 0 (readArrays (n - 0) 0 image at) ≡ answer 0 (readArrays n 0 image at)
-arrays-begin n image at = let e : n - 0 ≡ n = omega arith in rw e
-
-module _ (n k cells : ℕ) (image : List ℕ) (a : ℕ) (X : Read) (inv : answer 0 (readArrays (n - k) cells image a) ≡ X) where
-  pub arrays-done : n ≤ k → At 0 a ≡ X
-  unfolding readArrays answer
-  arrays-done h = let e : n - k ≡ 0 = omega arith in rw e at inv
-
-  module _ (h : k < n) (r : Read) (e : r ≡ wordAt image a) where
-    rest-arrays : ℕ → Parse (List ℕ)
-    rest-arrays w = andThen (readArrays (n - (k + 1)) (cells + arrayLength w) image (a + 1)) (λ ws m. got (w ∷ ws) m)
-
-    turn-arrays : answer 0 (onWord image a (λ w. arrayWord cells w) (λ w. rest-arrays w)) ≡ X
-    unfolding readArrays rest-arrays
-    turn-arrays = rw (one-more n k h) at inv
-
-    pub arrays-end : (m q : ℕ) → r ≡ Refused m q → r ≡ X
-    arrays-end m q d = word-end image a (λ w. arrayWord cells w) (λ w. rest-arrays w) r e 0 m q d ∙ turn-arrays
-
-    module _ (w next : ℕ) (d : r ≡ At w next) (g : Bool) (hg : g ≡ arrayWord cells w) where
-      pub arrays-bad : not g ≡ true → Refused 2 a ≡ X
-      arrays-bad t = word-bad image a (λ w. arrayWord cells w) (λ w. rest-arrays w) r e w next d 0 (sym hg ∙ not-true g t) ∙ turn-arrays
-
-      pub arrays-cells : not g ≡ false → cells + w % 65536 ≤ 1024
-      arrays-cells t = array-limits cells w (sym hg ∙ not-false g t) .4
-
-      pub arrays-more : not g ≡ false → answer 0 (readArrays (n - (k + 1)) (cells + w % 65536) image next) ≡ X
-      unfolding rest-arrays
-      arrays-more t =
-          ap (λ z. answer 0 (readArrays (n - (k + 1)) (cells + w % 65536) image z)) (word-of image a r w next e d .2)
-          ∙ sym (answer-last 0 (readArrays (n - (k + 1)) (cells + arrayLength w) image (a + 1)) (λ ws. w ∷ ws))
-          ∙ sym (ap (λ z. answer 0 z) (word-good image a (λ w. arrayWord cells w) (λ w. rest-arrays w) r e w next d (sym hg ∙ not-false g t)))
-          ∙ turn-arrays
-
-pub ruleset arrays·rules = (arrays-begin, arrays-done, arrays-end, arrays-bad, arrays-cells, arrays-more)
-
 -- ---- a procedure's types and body
 
-module _ (form : ℕ) (params : List ℕ) (me : ℕ) (image : List ℕ) (w at : ℕ) (r1 : Read)
-    (e1 : r1 ≡ answer 0 (readTypes (w % 268435456 / 256 % 256 + w % 268435456 % 256) image at)) where
+module _ (form : ℕ) (params : List ℕ) (me : ℕ) (image : List ℕ) (w at c : ℕ) (hc : c ≡ parametersOf w + localsOf w) (r1 : Read)
+    (e0 : r1 ≡ answer 0 (readTypes c image at)) where
+  e1 : r1 ≡ answer 0 (readTypes (parametersOf w + localsOf w) image at)
+  e1 = e0 ∙ ap (λ n. answer 0 (readTypes n image at)) hc
+
   types-then : Parse (List ℕ) → Parse Block
   types-then z = andThen z (λ ts n. readBlock (largestLevel form) params me image n)
 

@@ -17,9 +17,11 @@ use Rattle.laws.specs.WordTests.{call-op}
 use Rattle.laws.specs.StatementInversion.{statement-step, block-step}
 use Rattle.reader.specs.declared.Read.{Read}
 use Rattle.reader.specs.declared.Read.the-variants.{At, Refused}
-use Rattle.reader.specs.Answers.{answer, wordAt, readArgumentsAt, readStatementsAt, simpleAnswer, ifAnswer}
+use Rattle.image_words.specs.Read.{argumentsAt, statementsAt}
+use Rattle.image_words.specs.Parts.{told, not-told}
+use Rattle.reader.specs.Answers.{answer, wordAt, simpleAnswer, ifAnswer}
 use Rattle.reader.specs.Answers.{forAnswer}
-use Rattle.reader.specs.Tables.{Sound, marked, mark-sound}
+use Rattle.reader.specs.Ends.{Sound, marked, mark-sound}
 use Rattle.reader.specs.AnswerLaws.{got-of, refused-of, answer-got, answer-refused}
 use Rattle.reader.proofs.Answers.{one-more, answer-last, word-of, word-end, word-bad, word-good}
 
@@ -125,28 +127,28 @@ pub ruleset for·rules = (for-one-bad, for-two-bad, for-three-bad, for-whole)
 
 -- ---- an assignment, a store, a return, a call
 
-module _ (l : ℕ) (params image : List ℕ) (w at : ℕ) where
-  module _ (k : w % 268435456 / 65536 ≡ 5) (i c : ℕ) (hi : i ≡ w % 65536 / 256) (hc : c ≡ getD params i 0) (r : Read)
-      (e : r ≡ answer 0 (readArgumentsAt c l image at)) where
-    arguments : readArgumentsAt c l image at ≡ readArgumentsAt (getD params (calledOf w) 0) l image at
+module _ (l : ℕ) (params image : List ℕ) (w at op : ℕ) (ho : op ≡ opOf w) where
+  module _ (k : op ≡ 5) (i c : ℕ) (hi : i ≡ calledOf w) (hc : c ≡ getD params i 0) (r : Read)
+      (e : r ≡ answer 0 (argumentsAt c l image at)) where
+    arguments : argumentsAt c l image at ≡ argumentsAt (getD params (calledOf w) 0) l image at
     arguments = rw (hc, hi)
 
     pub simple-call-bad : (n q : ℕ) → r ≡ Refused n q → r ≡ simpleAnswer l params image w at
     unfolding simpleAnswer
     simple-call-bad n q d =
-        d ∙ rw k (answer-refused w (readArgumentsAt (getD params (calledOf w) 0) l image at) n q
-        (sym arguments ∙ refused-of 0 (readArgumentsAt c l image at) r n q e d))
+        d ∙ rw (told ho k) (answer-refused w (argumentsAt (getD params (calledOf w) 0) l image at) n q
+        (sym arguments ∙ refused-of 0 (argumentsAt c l image at) r n q e d))
 
     pub simple-call : (v n : ℕ) → r ≡ At v n → At w n ≡ simpleAnswer l params image w at
     unfolding simpleAnswer
     simple-call v n d =
-        let (a, p) = got-of 0 (readArgumentsAt c l image at) r v n e d in
-        rw k (answer-got w (readArgumentsAt (getD params (calledOf w) 0) l image at) a n (sym arguments ∙ p))
+        let (a, p) = got-of 0 (argumentsAt c l image at) r v n e d in
+        rw (told ho k) (answer-got w (argumentsAt (getD params (calledOf w) 0) l image at) a n (sym arguments ∙ p))
 
-  module _ (n5 : w % 268435456 / 65536 ≡ 5 → ⊥) (r1 : Read) (e1 : r1 ≡ answer (getD image at 0) (readExpression l image at)) where
+  module _ (n5 : op ≡ 5 → ⊥) (r1 : Read) (e1 : r1 ≡ answer (getD image at 0) (readExpression l image at)) where
     pub simple-one-bad : (n q : ℕ) → r1 ≡ Refused n q → r1 ≡ simpleAnswer l params image w at
     unfolding simpleAnswer
-    simple-one-bad n q d = d ∙ rw (ne-eqb _ _ n5) (go (eqb (opOf w) 1) (refused-of (getD image at 0) (readExpression l image at) r1 n q e1 d))
+    simple-one-bad n q d = d ∙ rw (ne-eqb _ _ (not-told ho n5)) (go (eqb (opOf w) 1) (refused-of (getD image at 0) (readExpression l image at) r1 n q e1 d))
       where
         go : (b : Bool) → readExpression l image at ≡ refused n q
             → Refused n q ≡ pick b (answer w (andThen (readExpression l image at) (λ i n. readExpression l image n))) (answer w (readExpression l image at))
@@ -156,13 +158,13 @@ module _ (l : ℕ) (params image : List ℕ) (w at : ℕ) where
         go false h = answer-refused w (readExpression l image at) n q h
 
     module _ (v1 n1 : ℕ) (d1 : r1 ≡ At v1 n1) where
-      pub simple-one : (w % 268435456 / 65536 ≡ 1 → ⊥) → At w n1 ≡ simpleAnswer l params image w at
+      pub simple-one : (op ≡ 1 → ⊥) → At w n1 ≡ simpleAnswer l params image w at
       unfolding simpleAnswer
       simple-one n1′ =
           let (a, p) = got-of (getD image at 0) (readExpression l image at) r1 v1 n1 e1 d1 in
-          rw (ne-eqb _ _ n5, ne-eqb _ _ n1′) (answer-got w (readExpression l image at) a n1 p)
+          rw (ne-eqb _ _ (not-told ho n5), ne-eqb _ _ (not-told ho n1′)) (answer-got w (readExpression l image at) a n1 p)
 
-      module _ (k : w % 268435456 / 65536 ≡ 1) (r2 : Read) (e2 : r2 ≡ answer (getD image n1 0) (readExpression l image n1)) where
+      module _ (k : op ≡ 1) (r2 : Read) (e2 : r2 ≡ answer (getD image n1 0) (readExpression l image n1)) where
         second : (a : Expression) → readExpression l image at ≡ got a n1
             → andThen (readExpression l image at) (λ i n. readExpression l image n) ≡ readExpression l image n1
         second a p = ap (λ z. andThen z (λ i n. readExpression l image n)) p
@@ -171,7 +173,7 @@ module _ (l : ℕ) (params image : List ℕ) (w at : ℕ) where
         unfolding simpleAnswer
         simple-two-bad n q d =
             let (a, p) = got-of (getD image at 0) (readExpression l image at) r1 v1 n1 e1 d1 in
-            d ∙ rw k (answer-refused w (andThen (readExpression l image at) (λ i n. readExpression l image n)) n q
+            d ∙ rw (told ho k) (answer-refused w (andThen (readExpression l image at) (λ i n. readExpression l image n)) n q
             (second a p ∙ refused-of (getD image n1 0) (readExpression l image n1) r2 n q e2 d))
 
         pub simple-two : (v2 n2 : ℕ) → r2 ≡ At v2 n2 → At w n2 ≡ simpleAnswer l params image w at
@@ -179,7 +181,7 @@ module _ (l : ℕ) (params image : List ℕ) (w at : ℕ) where
         simple-two v2 n2 d =
             let (a, p) = got-of (getD image at 0) (readExpression l image at) r1 v1 n1 e1 d1 in
             let (b, q) = got-of (getD image n1 0) (readExpression l image n1) r2 v2 n2 e2 d in
-            rw k (answer-got w (andThen (readExpression l image at) (λ i n. readExpression l image n)) b n2 (second a p ∙ q))
+            rw (told ho k) (answer-got w (andThen (readExpression l image at) (λ i n. readExpression l image n)) b n2 (second a p ∙ q))
 
 pub ruleset simple·rules = (simple-call-bad, simple-call, simple-one-bad, simple-one, simple-two-bad, simple-two)
 
@@ -224,7 +226,7 @@ module _ (l : ℕ) (params : List ℕ) (me : ℕ) (image : List ℕ) (at w : ℕ
       (λ f u b. loop (targetOf w) f u b))
 
   following-simple : statementWord me w ≡ true → (opOf w ≡ 2 → ⊥) → (opOf w ≡ 3 → ⊥) → answer w following ≡ simpleAnswer l params image w (at + 1)
-  unfolding following simpleAnswer readArgumentsAt
+  unfolding following simpleAnswer argumentsAt
   following-simple t n2 n3 = go (eqb (opOf w) 0) (eqb (opOf w) 1) (eqb (opOf w) 4) refl refl refl
     where
       go : (a b c : Bool) → eqb (opOf w) 0 ≡ a → eqb (opOf w) 1 ≡ b → eqb (opOf w) 4 ≡ c → answer w following ≡ simpleAnswer l params image w (at + 1)
@@ -284,42 +286,42 @@ module _ (l : ℕ) (params : List ℕ) (me : ℕ) (image : List ℕ) (at : ℕ) 
         after : next ≡ at + 1
         after = word-of image at r w next e d .2
 
-        pub statement-if : w % 268435456 / 65536 ≡ 2 → x ≡ ifAnswer (l - 1) params me image w next
+        pub statement-if : (op : ℕ) → op ≡ opOf w → op ≡ 2 → x ≡ ifAnswer (l - 1) params me image w next
             → x ≡ answer (getD image at 0) (readStatement l params me image at)
-        statement-if k q =
-            statement-shown (q ∙ ap (λ z. ifAnswer (l - 1) params me image w z) after ∙ sym (following-if (l - 1) params me image at w k))
+        statement-if op ho k q =
+            statement-shown (q ∙ ap (λ z. ifAnswer (l - 1) params me image w z) after ∙ sym (following-if (l - 1) params me image at w (told ho k)))
 
-        pub statement-for : w % 268435456 / 65536 ≡ 3 → x ≡ forAnswer (l - 1) params me image w next
+        pub statement-for : (op : ℕ) → op ≡ opOf w → op ≡ 3 → x ≡ forAnswer (l - 1) params me image w next
             → x ≡ answer (getD image at 0) (readStatement l params me image at)
-        statement-for k q =
-            statement-shown (q ∙ ap (λ z. forAnswer (l - 1) params me image w z) after ∙ sym (following-for (l - 1) params me image at w k))
+        statement-for op ho k q =
+            statement-shown (q ∙ ap (λ z. forAnswer (l - 1) params me image w z) after ∙ sym (following-for (l - 1) params me image at w (told ho k)))
 
-        pub statement-simple : (w % 268435456 / 65536 ≡ 2 → ⊥) → (w % 268435456 / 65536 ≡ 3 → ⊥) → x ≡ simpleAnswer (l - 1) params image w next
+        pub statement-simple : (op : ℕ) → op ≡ opOf w → (op ≡ 2 → ⊥) → (op ≡ 3 → ⊥) → x ≡ simpleAnswer (l - 1) params image w next
             → x ≡ answer (getD image at 0) (readStatement l params me image at)
-        statement-simple n2 n3 q =
+        statement-simple op ho n2 n3 q =
             statement-shown (q ∙ ap (λ z. simpleAnswer (l - 1) params image w z) after
-            ∙ sym (following-simple (l - 1) params me image at w (sym h ∙ not-false g t) n2 n3))
+            ∙ sym (following-simple (l - 1) params me image at w (sym h ∙ not-false g t) (not-told ho n2) (not-told ho n3)))
 
 pub ruleset statement·rules = (statement-end, statement-bad, statement-deep, statement-if, statement-for, statement-simple)
 
 -- ---- the statements of a block: what is left of them
 
 pub statements-begin : (n l : ℕ) (params : List ℕ) (me : ℕ) (image : List ℕ) (at : ℕ)
-    → answer 0 (readStatementsAt (n - 0) l params me image at) ≡ answer 0 (readStatementsAt n l params me image at)
+    → answer 0 (statementsAt (n - 0) l params me image at) ≡ answer 0 (statementsAt n l params me image at)
 statements-begin n l params me image at = let e : n - 0 ≡ n = omega arith in rw e
 
 module _ (n k l : ℕ) (params : List ℕ) (me : ℕ) (image : List ℕ) (a : ℕ) (X : Read)
-    (inv : answer 0 (readStatementsAt (n - k) l params me image a) ≡ X) where
+    (inv : answer 0 (statementsAt (n - k) l params me image a) ≡ X) where
   pub statements-done : n ≤ k → At 0 a ≡ X
-  unfolding readStatementsAt readStatements answer
+  unfolding statementsAt readStatements answer
   statements-done h = let e : n - k ≡ 0 = omega arith in rw e at inv
 
   module _ (h : k < n) (r : Read) (e : r ≡ answer (getD image a 0) (readStatement l params me image a)) where
     rest : Parse Statement → Parse Block
-    rest z = andThen z (λ s m. andThen (readStatementsAt (n - (k + 1)) l params me image m) (λ b o. got (Block.sequence a s b) o))
+    rest z = andThen z (λ s m. andThen (statementsAt (n - (k + 1)) l params me image m) (λ b o. got (Block.sequence a s b) o))
 
     turn : answer 0 (rest (readStatement l params me image a)) ≡ X
-    unfolding readStatementsAt readStatements rest
+    unfolding statementsAt readStatements rest
     turn = rw (one-more n k h) at inv
 
     pub statements-bad : (m q : ℕ) → r ≡ Refused m q → r ≡ X
@@ -327,11 +329,11 @@ module _ (n k l : ℕ) (params : List ℕ) (me : ℕ) (image : List ℕ) (a : �
     statements-bad m q d =
         d ∙ sym (ap (λ z. answer 0 (rest z)) (refused-of (getD image a 0) (readStatement l params me image a) r m q e d)) ∙ turn
 
-    pub statements-more : (v next : ℕ) → r ≡ At v next → answer 0 (readStatementsAt (n - (k + 1)) l params me image next) ≡ X
+    pub statements-more : (v next : ℕ) → r ≡ At v next → answer 0 (statementsAt (n - (k + 1)) l params me image next) ≡ X
     unfolding rest
     statements-more v next d =
         let (x, q) = got-of (getD image a 0) (readStatement l params me image a) r v next e d in
-        sym (answer-last 0 (readStatementsAt (n - (k + 1)) l params me image next) (λ b. Block.sequence a x b))
+        sym (answer-last 0 (statementsAt (n - (k + 1)) l params me image next) (λ b. Block.sequence a x b))
         ∙ sym (ap (λ z. answer 0 (rest z)) q) ∙ turn
 
 pub ruleset statements·rules = (statements-begin, statements-done, statements-bad, statements-more)
@@ -367,24 +369,25 @@ module _ (l : ℕ) (params : List ℕ) (me : ℕ) (image : List ℕ) (at : ℕ) 
           (ap (λ k. readBlock k params me image at) z ∙ block-none params me image at
           ∙ word-good image at blockWord (λ w. refused 5 at) r e w next d (sym h ∙ not-false g t))
 
-      module _ (f : l ≡ 0 → ⊥) (s : Read) (es : s ≡ answer 0 (readStatementsAt (w % 268435456) (l - 1) params me image next)) where
-        content : readBlock l params me image at ≡ readStatementsAt (w % 268435456) (l - 1) params me image next
-        unfolding readStatementsAt
+      module _ (f : l ≡ 0 → ⊥) (c : ℕ) (hc : c ≡ payloadOf w) (s : Read) (es : s ≡ answer 0 (statementsAt c (l - 1) params me image next)) where
+        content : readBlock l params me image at ≡ statementsAt c (l - 1) params me image next
+        unfolding statementsAt
         content =
             block-step l params me image at (omega arith)
             ∙ word-good image at blockWord (λ w. readStatements (payloadOf w) (λ a. readStatement (l - 1) params me image a) (at + 1))
             r e w next d (sym h ∙ not-false g t)
             ∙ ap (λ z. readStatements (payloadOf w) (λ a. readStatement (l - 1) params me image a) z) (sym (word-of image at r w next e d .2))
+            ∙ ap (λ z. readStatements z (λ a. readStatement (l - 1) params me image a) next) (sym hc)
 
         pub block-short : (n q : ℕ) → s ≡ Refused n q → s ≡ answer (getD image at 0) (readBlock l params me image at)
         block-short n q ds =
             ds ∙ answer-refused (getD image at 0) (readBlock l params me image at) n q
-            (content ∙ refused-of 0 (readStatementsAt (w % 268435456) (l - 1) params me image next) s n q es ds)
+            (content ∙ refused-of 0 (statementsAt c (l - 1) params me image next) s n q es ds)
 
         module _ (v end : ℕ) (ds : s ≡ At v end) where
           whole : (b : Block) × (readBlock l params me image at ≡ got b end)
           whole =
-              let (b, q) = got-of 0 (readStatementsAt (w % 268435456) (l - 1) params me image next) s v end es ds in (b, content ∙ q)
+              let (b, q) = got-of 0 (statementsAt c (l - 1) params me image next) s v end es ds in (b, content ∙ q)
 
           pub block-whole : At w end ≡ answer (getD image at 0) (readBlock l params me image at)
           block-whole =

@@ -4,9 +4,9 @@ use mathlib.Core.List.{List}
 use lib.Dec.{leb, eqb}
 use lib.ListN.{length, getD}
 use Rattle.definitions.specs.Choice.{pick}
-use Rattle.definitions.specs.Image.{Expression, Block, rawWord, opOf, calledOf, parametersOf, localsOf, largestLevel}
-use Rattle.definitions.specs.Reading.{Parse, got, refused, andThen, readExpression, readArguments, readStatement}
-use Rattle.definitions.specs.Reading.{readStatements, readBlock, readTypes}
+use Rattle.definitions.specs.Image.{rawWord, opOf, calledOf, parametersOf, localsOf, largestLevel}
+use Rattle.definitions.specs.Reading.{Parse, got, refused, andThen, readExpression, readBlock, readTypes}
+use Rattle.image_words.specs.Read.{argumentsAt}
 use Rattle.reader.specs.declared.Read.{Read}
 use Rattle.reader.specs.declared.Read.the-variants.{At, Refused}
 
@@ -19,26 +19,15 @@ answer w (refused n p) = Refused n p
 unfoldable pub wordAt : List ℕ → ℕ → Read
 wordAt image at = pick (leb (length image) at) (Refused 3 (length image)) (At (getD image at 0) (at + 1))
 
--- "At most 8 parameters and 64 locals in form 0, 9 and 246 in form 1."
-abbrev pub mostLocals : ℕ → ℕ
-mostLocals form = pick (eqb form 0) 64 246
-
 -- the raw constant of the expression that begins with word w
 unfoldable pub rawAnswer : ℕ → List ℕ → ℕ → Read
 rawAnswer w image at =
     pick (leb (length image) at) (Refused 3 (length image)) (pick (rawWord (getD image at 0)) (At w (at + 1)) (Refused 2 at))
 
--- the values of a call, the statements of a block: their reader named by its level
-unfoldable pub readArgumentsAt : ℕ → ℕ → List ℕ → ℕ → Parse (List Expression)
-readArgumentsAt n l image at = readArguments n (λ a. readExpression l image a) at
-
-unfoldable pub readStatementsAt : ℕ → ℕ → List ℕ → ℕ → List ℕ → ℕ → Parse Block
-readStatementsAt n l params me image at = readStatements n (λ a. readStatement l params me image a) at
-
 -- what follows a statement's word: an assignment's or a return's value, a store's index and value, a call's values
 unfoldable pub simpleAnswer : ℕ → List ℕ → List ℕ → ℕ → ℕ → Read
 simpleAnswer l params image w at =
-    pick (eqb (opOf w) 5) (answer w (readArgumentsAt (getD params (calledOf w) 0) l image at))
+    pick (eqb (opOf w) 5) (answer w (argumentsAt (getD params (calledOf w) 0) l image at))
     (pick (eqb (opOf w) 1) (answer w (andThen (readExpression l image at) (λ i n. readExpression l image n))) (answer w (readExpression l image at)))
 
 -- an if's condition and blocks

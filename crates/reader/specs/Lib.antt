@@ -1,4 +1,4 @@
 pub mod Answers
 pub mod AnswerLaws
-pub mod Tables
-pub mod TableLaws
+pub mod Ends
+pub mod Left

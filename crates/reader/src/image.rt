@@ -1,46 +1,53 @@
 // Reading a whole image: header, arrays, procedures. Fills the tables for the passes after.
 ghost use mathlib.Core.Path.{_≡_};
 ghost use mathlib.Core.Bool.{true};
+ghost use mathlib.Core.List.{[]};
 ghost use Prim.Native.Nat.{_≤_, _<_};
 ghost use lib.ListN.{length, getD, replicate};
 ghost use Rattle.definitions.specs.Image.{headerWord};
 ghost use Rattle.definitions.specs.Reading.{readProcedures, readRest, readImage};
+ghost use Rattle.tables.specs.Table.{tableOf, paramsIn};
 ghost use Rattle.reader.specs.Answers.{answer};
-ghost use Rattle.reader.specs.Tables.{Sound, FilledBy, TablesOf};
+ghost use Rattle.reader.specs.Ends.{Sound};
+ghost use Rattle.reader.specs.Left.{Begun, ProceduresLeft, ImageLeft, TablesLeft};
 use super::Read;
 use super::procedures::read_arrays;
 use super::procedures::read_procedure;
-use super::tables::clear;
-use super::tables::narrow;
-use super::tables::wide;
-use super::words::header_word;
-use super::words::largest_image;
+use image_words::arrays;
+use image_words::form;
+use image_words::limits::largest_image;
+use image_words::lists::clear;
+use image_words::lists::narrow;
+use image_words::lists::wide;
+use image_words::parameters;
+use image_words::procedures;
+use image_words::valid::header_word;
+use image_words::variables;
+use tables::SIZE;
 
-// `count` procedures, with the number of parameters and the place of each; there need be none, so that the word answered is 0.
+// `count` procedures, which go into the table; there need be none, so that the word answered is 0.
 fn read_procedures(
     image: &[u32],
     form: u32,
     count: u32,
-    params: &mut [u32],
-    places: &mut [u32],
+    table: &mut [u32; SIZE],
     ends: &mut [u32],
     at: usize,
 ) -> Read
-    requires { ⌜ (form < 2) × (count ≤ 32) × (length (now image) ≤ 16384) × (length (now params) ≡ 32) × (length (now places) ≡ 32)
-        × Sound (now image) (now params) 0 (now ends) ⌝ }
-    ensures { λ r. ⌜ (r ≡ answer 0 (readProcedures count form (now (params .entry)) 0 (now (image .entry)) at))
-        × FilledBy form count (now (image .entry)) (now (params .entry)) at (now (params .exit)) (now (places .exit)) (now (ends .exit)) ⌝ }
+    requires { ⌜ (form < 2) × (count ≤ 32) × (length (now image) ≤ 16384) × Begun (now table)
+        × Sound (now image) (paramsIn (now table)) 0 (now ends) ⌝ }
+    ensures { λ r. ⌜ (r ≡ answer 0 (readProcedures count form (paramsIn (now (table .entry))) 0 (now (image .entry)) at))
+        × ProceduresLeft form count (now (image .entry)) (now (table .entry)) at (now (table .exit)) (now (ends .exit)) ⌝ }
 {
     let mut me: u32 = 0;
     let mut a = at;
     while me < count {
-        let r = read_procedure(image, form, params, me, ends, a);
+        let r = read_procedure(image, form, table, me, ends, a);
         let Read::At(w, next) = r else {
             return r;
         };
-        let i = wide(me);
-        params[i] = w % 268435456 / 256 % 256;
-        places[i] = narrow(a);
+        let body = a + 1 + 1 + wide(variables(w));
+        tables::add_procedure(table, me, narrow(a), narrow(body), parameters(w));
         a = next;
         me += 1;
     }
@@ -48,24 +55,16 @@ fn read_procedures(
 }
 
 // What follows a header that was tested, up to the image's end: "4 [first spare word]".
-fn read_rest(
-    image: &[u32],
-    header: u32,
-    params: &mut [u32],
-    places: &mut [u32],
-    ends: &mut [u32],
-) -> Read
-    requires { ⌜ (headerWord header ≡ true) × (length (now image) ≤ 16384) × (now params ≡ replicate 32 0) × (length (now places) ≡ 32)
-        × Sound (now image) (now params) 0 (now ends) ⌝ }
+fn read_rest(image: &[u32], header: u32, table: &mut [u32; SIZE], ends: &mut [u32]) -> Read
+    requires { ⌜ (headerWord header ≡ true) × (length (now image) ≤ 16384) × (now table ≡ tableOf [] []) × Sound (now image) (paramsIn (now table)) 0 (now ends) ⌝ }
     ensures { λ r. ⌜ (r ≡ answer header (readRest header (now (image .entry))))
-        × TablesOf (readRest header (now (image .entry))) (now (image .entry)) (now (params .exit)) (now (places .exit)) (now (ends .exit)) ⌝ }
+        × ImageLeft (readRest header (now (image .entry))) (now (image .entry)) (now (table .exit)) (now (ends .exit)) ⌝ }
 {
-    let p = header % 268435456;
-    let r = read_arrays(image, p / 256 % 256, 1);
+    let r = read_arrays(image, arrays(header), 1, table);
     let Read::At(_, n) = r else {
         return r;
     };
-    let s = read_procedures(image, p / 65536, p % 256, params, places, ends, n);
+    let s = read_procedures(image, form(header), procedures(header), table, ends, n);
     let Read::At(_, m) = s else {
         return s;
     };
@@ -75,17 +74,11 @@ fn read_rest(
     Read::At(header, m)
 }
 
-// An image, with cleared tables. The header comes before the length.
-fn read_whole(
-    image: &[u32],
-    whole: bool,
-    params: &mut [u32],
-    places: &mut [u32],
-    ends: &mut [u32],
-) -> Read
-    requires { ⌜ (now params ≡ replicate 32 0) × (length (now places) ≡ 32) × Sound (now image) (now params) 0 (now ends) ⌝ }
+// An image, with tables of zeros. The header comes before the length.
+fn read_whole(image: &[u32], whole: bool, table: &mut [u32; SIZE], ends: &mut [u32]) -> Read
+    requires { ⌜ (now table ≡ tableOf [] []) × Sound (now image) (paramsIn (now table)) 0 (now ends) ⌝ }
     ensures { λ r. ⌜ (r ≡ answer (getD (now (image .entry)) 0 0) (readImage whole (now (image .entry))))
-        × TablesOf (readImage whole (now (image .entry))) (now (image .entry)) (now (params .exit)) (now (places .exit)) (now (ends .exit)) ⌝ }
+        × ImageLeft (readImage whole (now (image .entry))) (now (image .entry)) (now (table .exit)) (now (ends .exit)) ⌝ }
 {
     if image.len() == 0 {
         return Read::Refused(1, 0); // empty
@@ -94,41 +87,27 @@ fn read_whole(
     if !header_word(header) {
         return Read::Refused(2, 0); // no header
     }
-    let most = largest_image(header % 268435456 / 65536);
+    let most = largest_image(form(header));
     if !(whole & (image.len() <= most)) {
         return Read::Refused(1, 0); // too long, or bytes left over
     }
-    read_rest(image, header, params, places, ends)
+    read_rest(image, header, table, ends)
 }
 
-// An image, with tables that are lent as slices.
-pub fn read_into(
-    image: &[u32],
-    whole: bool,
-    params: &mut [u32],
-    places: &mut [u32],
-    ends: &mut [u32],
-) -> Read
-    requires { ⌜ (length (now params) ≡ 32) × (length (now places) ≡ 32) ⌝ }
+// Reads an image and leaves the tables for the passes after: what they have to know of arrays and procedures, and the place after each
+// block, as far as `ends` is long enough. Both come as zeros, and a refusal leaves zeros. `whole` tells whether the image came as whole words.
+pub fn read_image(image: &[u32], whole: bool, table: &mut [u32; SIZE], ends: &mut [u32]) -> Read
+    requires { ⌜ (now table ≡ replicate 129 0) × (now ends ≡ replicate (length (now ends)) 0) ⌝ }
     ensures { λ r. ⌜ (r ≡ answer (getD (now (image .entry)) 0 0) (readImage whole (now (image .entry))))
-        × TablesOf (readImage whole (now (image .entry))) (now (image .entry)) (now (params .exit)) (now (places .exit)) (now (ends .exit)) ⌝ }
+        × TablesLeft (readImage whole (now (image .entry))) (now (image .entry)) (now (table .exit)) (now (ends .exit)) ⌝ }
 {
-    clear(params);
-    clear(ends);
-    read_whole(image, whole, params, places, ends)
-}
-
-// Reads an image and leaves the tables for the passes after: the number of parameters and the place of each procedure, and the place
-// after each block, as far as `ends` is long enough. `whole` tells whether the image came as whole words.
-pub fn read_image(
-    image: &[u32],
-    whole: bool,
-    params: &mut [u32; 32],
-    places: &mut [u32; 32],
-    ends: &mut [u32],
-) -> Read
-    ensures { λ r. ⌜ (r ≡ answer (getD (now (image .entry)) 0 0) (readImage whole (now (image .entry))))
-        × TablesOf (readImage whole (now (image .entry))) (now (image .entry)) (now (params .exit)) (now (places .exit)) (now (ends .exit)) ⌝ }
-{
-    read_into(image, whole, params, places, ends)
+    let r = read_whole(image, whole, table, ends);
+    match r {
+        Read::At(header, end) => Read::At(header, end),
+        Read::Refused(number, place) => {
+            clear(table);
+            clear(ends);
+            Read::Refused(number, place)
+        }
+    }
 }

@@ -1,17 +1,23 @@
 // Reading type words, procedures and array words.
 ghost use mathlib.Core.Path.{_≡_};
 ghost use Prim.Native.Nat.{_≤_, _<_};
+ghost use mathlib.Core.List.{[]};
 ghost use lib.ListN.{length, getD};
 ghost use Rattle.definitions.specs.Reading.{readTypes, readProcedure, readArrays};
+ghost use Rattle.tables.specs.Table.{tableOf, paramsIn};
 ghost use Rattle.reader.specs.Answers.{answer, bodyAnswer};
-ghost use Rattle.reader.specs.Tables.{Sound};
+ghost use Rattle.reader.specs.Ends.{Sound};
+ghost use Rattle.reader.specs.Left.{ArraysLeft};
 use super::Read;
 use super::statements::read_block;
-use super::words::array_word;
-use super::words::largest_level;
-use super::words::procedure_word;
-use super::words::type_word;
 use super::words::word;
+use image_words::array_length;
+use image_words::limits::largest_level;
+use image_words::valid::array_word;
+use image_words::valid::procedure_word;
+use image_words::valid::type_word;
+use image_words::variables;
+use tables::SIZE;
 
 // `count` type words; there need be none, so that the word answered is 0.
 pub fn read_types(image: &[u32], count: u32, at: usize) -> Read
@@ -37,22 +43,21 @@ pub fn read_types(image: &[u32], count: u32, at: usize) -> Read
 fn read_body(
     image: &[u32],
     form: u32,
-    params: &[u32],
+    table: &[u32; SIZE],
     me: u32,
     ends: &mut [u32],
     w: u32,
     at: usize,
 ) -> Read
-    requires { ⌜ Sound (now image) (now params) me (now ends) ⌝ }
-    ensures { λ r. ⌜ (r ≡ bodyAnswer form (now (params .entry)) me (now (image .entry)) w at)
-        × Sound (now (image .entry)) (now (params .entry)) me (now (ends .exit)) ⌝ }
+    requires { ⌜ Sound (now image) (paramsIn (now table)) me (now ends) ⌝ }
+    ensures { λ r. ⌜ (r ≡ bodyAnswer form (paramsIn (now (table .entry))) me (now (image .entry)) w at)
+        × Sound (now (image .entry)) (paramsIn (now (table .entry))) me (now (ends .exit)) ⌝ }
 {
-    let p = w % 268435456;
-    let r1 = read_types(image, p / 256 % 256 + p % 256, at);
+    let r1 = read_types(image, variables(w), at);
     let Read::At(_, n) = r1 else {
         return r1;
     };
-    let r2 = read_block(image, params, me, ends, n, largest_level(form));
+    let r2 = read_block(image, table, me, ends, n, largest_level(form));
     let Read::At(_, end) = r2 else {
         return r2;
     };
@@ -63,14 +68,14 @@ fn read_body(
 pub fn read_procedure(
     image: &[u32],
     form: u32,
-    params: &[u32],
+    table: &[u32; SIZE],
     me: u32,
     ends: &mut [u32],
     at: usize,
 ) -> Read
-    requires { ⌜ (form < 2) × Sound (now image) (now params) me (now ends) ⌝ }
-    ensures { λ r. ⌜ (r ≡ answer (getD (now (image .entry)) at 0) (readProcedure form (now (params .entry)) me (now (image .entry)) at))
-        × Sound (now (image .entry)) (now (params .entry)) me (now (ends .exit)) ⌝ }
+    requires { ⌜ (form < 2) × Sound (now image) (paramsIn (now table)) me (now ends) ⌝ }
+    ensures { λ r. ⌜ (r ≡ answer (getD (now (image .entry)) at 0) (readProcedure form (paramsIn (now (table .entry))) me (now (image .entry)) at))
+        × Sound (now (image .entry)) (paramsIn (now (table .entry))) me (now (ends .exit)) ⌝ }
 {
     let r = word(image, at);
     let Read::At(w, next) = r else {
@@ -86,12 +91,13 @@ pub fn read_procedure(
     if !type_word(v) {
         return Read::Refused(2, next);
     }
-    read_body(image, form, params, me, ends, w, first)
+    read_body(image, form, table, me, ends, w, first)
 }
 
-// `count` array words; there need be none, so that the word answered is 0.
-pub fn read_arrays(image: &[u32], count: u32, at: usize) -> Read
-    ensures { λ r. ⌜ r ≡ answer 0 (readArrays count 0 (now (image .entry)) at) ⌝ }
+// `count` array words, which go into the table; there need be none, so that the word answered is 0.
+pub fn read_arrays(image: &[u32], count: u32, at: usize, table: &mut [u32; SIZE]) -> Read
+    requires { ⌜ (count ≤ 16) × (now table ≡ tableOf [] []) ⌝ }
+    ensures { λ r. ⌜ (r ≡ answer 0 (readArrays count 0 (now (image .entry)) at)) × ArraysLeft (readArrays count 0 (now (image .entry)) at) (now (table .exit)) ⌝ }
 {
     let mut k = 0;
     let mut cells: u32 = 0;
@@ -104,7 +110,8 @@ pub fn read_arrays(image: &[u32], count: u32, at: usize) -> Read
         if !array_word(cells, w) {
             return Read::Refused(2, a);
         }
-        cells += w % 65536;
+        tables::add_array(table, k, w, cells);
+        cells += array_length(w);
         a = next;
         k += 1;
     }

@@ -5,25 +5,32 @@ ghost use Prim.Native.Nat.{_≤_, _<_};
 ghost use lib.ListN.{getD};
 ghost use Rattle.definitions.specs.Reading.{readBlock, readStatement};
 ghost use Rattle.laws.specs.Parses.{ok, endOf};
-ghost use Rattle.reader.specs.Answers.{answer, simpleAnswer, ifAnswer, forAnswer, readStatementsAt};
-ghost use Rattle.reader.specs.Tables.{Sound, BlockEnds};
+ghost use Rattle.image_words.specs.Read.{statementsAt};
+ghost use Rattle.tables.specs.Table.{paramsIn};
+ghost use Rattle.reader.specs.Answers.{answer, simpleAnswer, ifAnswer, forAnswer};
+ghost use Rattle.reader.specs.Ends.{Sound, BlockEnds};
 use super::Read;
+use super::ends::mark;
 use super::expressions::read_arguments;
 use super::expressions::read_expression;
-use super::tables::entry;
-use super::tables::mark;
-use super::tables::wide;
-use super::words::block_word;
-use super::words::statement_word;
 use super::words::word;
+use image_words::called;
+use image_words::lists::element;
+use image_words::lists::wide;
+use image_words::op;
+use image_words::ops;
+use image_words::payload;
+use image_words::valid::block_word;
+use image_words::valid::statement_word;
+use tables::SIZE;
 
 // What follows the word of an assignment, a store, a return or a call.
-fn read_simple(image: &[u32], params: &[u32], w: u32, at: usize, level: u32) -> Read
-    ensures { λ r. ⌜ r ≡ simpleAnswer level (now (params .entry)) (now (image .entry)) w at ⌝ }
+fn read_simple(image: &[u32], table: &[u32; SIZE], w: u32, at: usize, level: u32) -> Read
+    ensures { λ r. ⌜ r ≡ simpleAnswer level (paramsIn (now (table .entry))) (now (image .entry)) w at ⌝ }
 {
-    let op = w % 268435456 / 65536;
-    if op == 5 {
-        let count = entry(params, wide(w % 65536 / 256));
+    let o = op(w);
+    if o == ops::CALL {
+        let count = tables::parameters(table, called(w));
         let r = read_arguments(image, count, at, level);
         let Read::At(_, end) = r else {
             return r;
@@ -34,7 +41,7 @@ fn read_simple(image: &[u32], params: &[u32], w: u32, at: usize, level: u32) -> 
     let Read::At(_, n) = r1 else {
         return r1;
     };
-    if op != 1 {
+    if o != ops::STORE {
         return Read::At(w, n);
     }
     let r2 = read_expression(image, n, level);
@@ -47,26 +54,26 @@ fn read_simple(image: &[u32], params: &[u32], w: u32, at: usize, level: u32) -> 
 // What follows the word of an if.
 fn read_if(
     image: &[u32],
-    params: &[u32],
+    table: &[u32; SIZE],
     me: u32,
     ends: &mut [u32],
     w: u32,
     at: usize,
     level: u32,
 ) -> Read
-    requires { ⌜ Sound (now image) (now params) me (now ends) ⌝ }
-    ensures { λ r. ⌜ (r ≡ ifAnswer level (now (params .entry)) me (now (image .entry)) w at)
-        × Sound (now (image .entry)) (now (params .entry)) me (now (ends .exit)) ⌝ }
+    requires { ⌜ Sound (now image) (paramsIn (now table)) me (now ends) ⌝ }
+    ensures { λ r. ⌜ (r ≡ ifAnswer level (paramsIn (now (table .entry))) me (now (image .entry)) w at)
+        × Sound (now (image .entry)) (paramsIn (now (table .entry))) me (now (ends .exit)) ⌝ }
 {
     let r1 = read_expression(image, at, level);
     let Read::At(_, n) = r1 else {
         return r1;
     };
-    let r2 = read_block(image, params, me, ends, n, level);
+    let r2 = read_block(image, table, me, ends, n, level);
     let Read::At(_, m) = r2 else {
         return r2;
     };
-    let r3 = read_block(image, params, me, ends, m, level);
+    let r3 = read_block(image, table, me, ends, m, level);
     let Read::At(_, o) = r3 else {
         return r3;
     };
@@ -76,16 +83,16 @@ fn read_if(
 // What follows the word of a for.
 fn read_for(
     image: &[u32],
-    params: &[u32],
+    table: &[u32; SIZE],
     me: u32,
     ends: &mut [u32],
     w: u32,
     at: usize,
     level: u32,
 ) -> Read
-    requires { ⌜ Sound (now image) (now params) me (now ends) ⌝ }
-    ensures { λ r. ⌜ (r ≡ forAnswer level (now (params .entry)) me (now (image .entry)) w at)
-        × Sound (now (image .entry)) (now (params .entry)) me (now (ends .exit)) ⌝ }
+    requires { ⌜ Sound (now image) (paramsIn (now table)) me (now ends) ⌝ }
+    ensures { λ r. ⌜ (r ≡ forAnswer level (paramsIn (now (table .entry))) me (now (image .entry)) w at)
+        × Sound (now (image .entry)) (paramsIn (now (table .entry))) me (now (ends .exit)) ⌝ }
 {
     let r1 = read_expression(image, at, level);
     let Read::At(_, n) = r1 else {
@@ -95,25 +102,25 @@ fn read_for(
     let Read::At(_, m) = r2 else {
         return r2;
     };
-    let r3 = read_block(image, params, me, ends, m, level);
+    let r3 = read_block(image, table, me, ends, m, level);
     let Read::At(_, o) = r3 else {
         return r3;
     };
     Read::At(w, o)
 }
 
-// A statement in the body of the procedure numbered `me`; `params` has the number of parameters of each procedure before it.
+// A statement in the body of the procedure numbered `me`; the table has the number of parameters of each procedure before it.
 pub fn read_statement(
     image: &[u32],
-    params: &[u32],
+    table: &[u32; SIZE],
     me: u32,
     ends: &mut [u32],
     at: usize,
     level: u32,
 ) -> Read
-    requires { ⌜ Sound (now image) (now params) me (now ends) ⌝ }
-    ensures { λ r. ⌜ (r ≡ answer (getD (now (image .entry)) at 0) (readStatement level (now (params .entry)) me (now (image .entry)) at))
-        × Sound (now (image .entry)) (now (params .entry)) me (now (ends .exit)) ⌝ }
+    requires { ⌜ Sound (now image) (paramsIn (now table)) me (now ends) ⌝ }
+    ensures { λ r. ⌜ (r ≡ answer (getD (now (image .entry)) at 0) (readStatement level (paramsIn (now (table .entry))) me (now (image .entry)) at))
+        × Sound (now (image .entry)) (paramsIn (now (table .entry))) me (now (ends .exit)) ⌝ }
 {
     let r = word(image, at);
     let Read::At(w, next) = r else {
@@ -125,34 +132,34 @@ pub fn read_statement(
     if level == 0 {
         return Read::Refused(5, at);
     }
-    let op = w % 268435456 / 65536;
-    if op == 2 {
-        return read_if(image, params, me, ends, w, next, level - 1);
+    let o = op(w);
+    if o == ops::IF {
+        return read_if(image, table, me, ends, w, next, level - 1);
     }
-    if op == 3 {
-        return read_for(image, params, me, ends, w, next, level - 1);
+    if o == ops::FOR {
+        return read_for(image, table, me, ends, w, next, level - 1);
     }
-    read_simple(image, params, w, next, level - 1)
+    read_simple(image, table, w, next, level - 1)
 }
 
 // `count` statements in a row; there need be none, so that the word answered is 0.
 fn read_statements(
     image: &[u32],
-    params: &[u32],
+    table: &[u32; SIZE],
     me: u32,
     ends: &mut [u32],
     count: u32,
     at: usize,
     level: u32,
 ) -> Read
-    requires { ⌜ Sound (now image) (now params) me (now ends) ⌝ }
-    ensures { λ r. ⌜ (r ≡ answer 0 (readStatementsAt count level (now (params .entry)) me (now (image .entry)) at))
-        × Sound (now (image .entry)) (now (params .entry)) me (now (ends .exit)) ⌝ }
+    requires { ⌜ Sound (now image) (paramsIn (now table)) me (now ends) ⌝ }
+    ensures { λ r. ⌜ (r ≡ answer 0 (statementsAt count level (paramsIn (now (table .entry))) me (now (image .entry)) at))
+        × Sound (now (image .entry)) (paramsIn (now (table .entry))) me (now (ends .exit)) ⌝ }
 {
     let mut k = 0;
     let mut a = at;
     while k < count {
-        let r = read_statement(image, params, me, ends, a, level);
+        let r = read_statement(image, table, me, ends, a, level);
         let Read::At(_, next) = r else {
             return r;
         };
@@ -165,15 +172,15 @@ fn read_statements(
 // A block: a count, then that many statements. Its end is marked.
 pub fn read_block(
     image: &[u32],
-    params: &[u32],
+    table: &[u32; SIZE],
     me: u32,
     ends: &mut [u32],
     at: usize,
     level: u32,
 ) -> Read
-    requires { ⌜ Sound (now image) (now params) me (now ends) ⌝ }
-    ensures { λ r. ⌜ (r ≡ answer (getD (now (image .entry)) at 0) (readBlock level (now (params .entry)) me (now (image .entry)) at))
-        × Sound (now (image .entry)) (now (params .entry)) me (now (ends .exit)) ⌝ }
+    requires { ⌜ Sound (now image) (paramsIn (now table)) me (now ends) ⌝ }
+    ensures { λ r. ⌜ (r ≡ answer (getD (now (image .entry)) at 0) (readBlock level (paramsIn (now (table .entry))) me (now (image .entry)) at))
+        × Sound (now (image .entry)) (paramsIn (now (table .entry))) me (now (ends .exit)) ⌝ }
 {
     let r = word(image, at);
     let Read::At(w, next) = r else {
@@ -185,7 +192,7 @@ pub fn read_block(
     if level == 0 {
         return Read::Refused(5, at);
     }
-    let s = read_statements(image, params, me, ends, w % 268435456, next, level - 1);
+    let s = read_statements(image, table, me, ends, payload(w), next, level - 1);
     let Read::At(_, end) = s else {
         return s;
     };
@@ -196,21 +203,21 @@ pub fn read_block(
 // The place after a block that is known to read: from the table, or where that has no entry by reading the block again.
 pub fn block_end(
     image: &[u32],
-    params: &[u32],
+    table: &[u32; SIZE],
     me: u32,
     ends: &[u32],
     at: usize,
     level: u32,
 ) -> usize
-    requires { ⌜ BlockEnds (now image) (now params) (now ends) × (ok (readBlock level (now params) me (now image) at) ≡ true) ⌝ }
-    ensures { λ r. ⌜ r ≡ endOf (readBlock level (now (params .entry)) me (now (image .entry)) at) ⌝ }
+    requires { ⌜ BlockEnds (now image) (paramsIn (now table)) (now ends) × (ok (readBlock level (paramsIn (now table)) me (now image) at) ≡ true) ⌝ }
+    ensures { λ r. ⌜ r ≡ endOf (readBlock level (paramsIn (now (table .entry))) me (now (image .entry)) at) ⌝ }
 {
-    let e = entry(ends, at);
+    let e = element(ends, at);
     if e != 0 {
         return wide(e);
     }
     let mut none = [0u32; 1];
-    let r = read_block(image, params, me, &mut none, at, level);
+    let r = read_block(image, table, me, &mut none, at, level);
     let Read::At(_, end) = r else {
         return 0;
     };

@@ -1,196 +1,138 @@
 -- Each way in which a lent image is found ready or not. Assumes nothing.
 use mathlib.Core.Path.{_≡_, refl, sym, ap, _∙_}
 use mathlib.Core.Bool.{Bool, true, false, _&&_}
-use mathlib.Core.List.{List}
-use Prim.Native.Nat.{ℕ, _+_, _-_, _%_, _≤_, _<_, min}
+use mathlib.Core.List.{List, [], _∷_}
+use Prim.Native.Nat.{ℕ, _/_, _%_, _≤_, _<_, min}
 use native.Mathlib.Omega.{arith}
-use borrow.Author.Tests.{le-leb, lt-leb, leb-true, leb-false, eqb-true}
+use borrow.Author.Tests.{le-leb, lt-leb, eqb-true}
 use lib.Dec.{leb, eqb}
-use lib.ListN.{length, getD, take, drop, length-take}
+use lib.ListN.{length, take, drop, replicate}
 use lib.Seq.{take-all}
 use Rattle.definitions.specs.Choice.{pick}
 use Rattle.definitions.specs.Bytes.{wordsOf}
-use Rattle.definitions.specs.Image.{Image, arraysOf, cellCount}
-use Rattle.definitions.specs.Reading.{Parse, got, readImage}
+use Rattle.definitions.specs.Image.{Image, cellCount}
+use Rattle.definitions.specs.Reading.{Parse, got, refused, readImage}
 use Rattle.definitions.specs.Checking.{withoutFault, admitted, checked}
-use Rattle.definitions.specs.Requests.{ready, unready, withCells, readyToLoad, readyToServe}
+use Rattle.definitions.specs.Requests.{ready, unready, withCells, readyToLoad, readyToServe, Ready as Readiness}
 use Rattle.definitions.specs.Host.{wholeWords}
 use Rattle.definitions.specs.declared.Checked.{Checked}
-use Rattle.definitions.specs.declared.Checked.the-variants.{Refused as CheckRefused, Accepted as CheckAccepted}
-use Rattle.words.proofs.Laws.{length-wordsOf}
-use Rattle.results.specs.Images.{checked-within}
-use Rattle.image_bytes.specs.FirstWords.{same-read}
-use Rattle.reader.specs.Tables.{TablesOf, tables-of}
-use Rattle.requests.specs.Ready.{ready-refused, ready-accepted, accepted-read, enough-cells, few-cells}
+use Rattle.definitions.specs.declared.Checked.the-variants.{Refused, Accepted}
 use Rattle.laws.specs.ReadImages.{open-image}
-use Rattle.laws.specs.ImageIn.{length-limit, arrays-limit, cells-limit, arrays-inside, arrays-part}
+use Rattle.laws.specs.ImageIn.{imageIn, image-read, length-limit}
+use Rattle.words.proofs.Laws.{length-wordsOf}
+use Rattle.tables.specs.Table.{arrayCountIn, arraysIn}
+use Rattle.tables.specs.Looking.{known-arrays, known-count, few-arrays}
+use Rattle.reader.specs.Left.{TablesLeft}
+use Rattle.requests.specs.LongImages.{same-read}
+use Rattle.requests.specs.Ready.{ready-refused, ready-accepted}
+use Rattle.checker.specs.Left.{passes}
 use Rattle.ready.specs.declared.Ready.{Ready}
-use Rattle.ready.specs.declared.Ready.the-variants.{Words, Unready}
-use Rattle.ready.specs.Prepared.{arraysIn, countedOn, Serves, Judged, Prepared}
+use Rattle.ready.specs.declared.Ready.the-variants.{Cells, Unready}
+use Rattle.ready.specs.Prepared.{countedOn, readied, tableLeft, Prepared}
 
 -- ---- counting the cells
 
-module _ (words part : List ℕ) (count cells end : ℕ) (e : end ≡ 1 + arraysOf (getD words 0 0)) (p : part ≡ take (end - 1) (drop 1 words))
-    (c : cells ≡ cellCount part) where
-  counted : cells ≡ cellCount (arraysIn words)
-  counted = let one : end - 1 ≡ arraysOf (getD words 0 0) = omega arith in c ∙ ap cellCount (p ∙ ap (λ (n : ℕ). take n (drop 1 words)) one)
+pub count-few : (n count cells : ℕ) → cells ≡ n → count < cells → Unready 17 0 ≡ countedOn n count
+unfolding countedOn
+count-few n count cells e h = rw (← e, lt-leb cells count h)
 
-  pub count-few : count < cells → Unready 17 0 ≡ countedOn words count
-  unfolding countedOn
-  count-few h = rw (← counted, lt-leb cells count h)
-
-  pub count-enough : cells ≤ count → Words (length words) cells ≡ countedOn words count
-  unfolding countedOn
-  count-enough h = rw (← counted, le-leb cells count h)
-
-pub part-short : (words : List ℕ) (n : ℕ) → n ≤ 16 → length (take n (drop 1 words)) ≤ 16
-part-short words n h = rw length-take (omega arith)
+pub count-enough : (n count cells : ℕ) → cells ≡ n → cells ≤ count → Cells cells ≡ countedOn n count
+unfolding countedOn
+count-enough n count cells e h = rw (← e, le-leb cells count h)
 
 -- ---- the verdict
 
-module _ (whole : Bool) (words : List ℕ) (count : ℕ) (c : Checked) (e : c ≡ checked whole words) (params places ends : List ℕ) where
-  pub judge-refused : (k p : ℕ) → c ≡ CheckRefused k p → Judged (Unready k p) whole words count params places ends
-  judge-refused k p f =
-      record {
-        refusal = λ i q s.
-            let a : k ≡ i = cc in
-            let b : p ≡ q = cc in
-            let within : p ≤ length words = rw (← e, f) at (checked-within whole words) in
-            rw (← a, ← b) (ready-refused whole words count k p (sym e ∙ f), within);
-        accepted = λ n m s. absurd (let z : _≡_ {A = ℕ} 0 1 = cc in omega arith);
-      }
+module _ (whole : Bool) (words : List ℕ) (count : ℕ) (c : Checked) (e : c ≡ checked whole words) where
+  pub judge-refused : (k p : ℕ) → c ≡ Refused k p → Unready k p ≡ readied (readyToLoad whole words count)
+  unfolding readied
+  judge-refused k p f = rw (ready-refused whole words count k p (sym e ∙ f))
 
-  module _ (f : c ≡ CheckAccepted) where
-    -- what counting the cells needs
-    pub judge-header : (arraysOf (getD words 0 0) ≤ 16) × (1 + arraysOf (getD words 0 0) ≤ length words)
-    judge-header =
-        let (tree, end, r) = accepted-read whole words (sym e ∙ f) in
-        let i = open-image whole words tree end r in (arrays-limit i, arrays-inside i)
+  module _ (f : c ≡ Accepted) (table ends : List ℕ) (t : TablesLeft (readImage whole words) words table ends) where
+    pub judge-arrays : arrayCountIn table ≤ 16
+    judge-arrays =
+        let k = passes whole words table ends c e f t .known in
+        let n = known-count words table k in let few = few-arrays words table k in omega arith
 
-    pub judge-accepted : TablesOf (readImage whole words) words params places ends → (r : Ready) → r ≡ countedOn words count
-        → Judged r whole words count params places ends
-    unfolding countedOn
-    judge-accepted t r q =
-        let (tree, end, s) = accepted-read whole words (sym e ∙ f) in
-        go tree end s (leb (cellCount (arraysIn words)) count) refl q
+    pub judge-accepted : (r : Ready) → r ≡ countedOn (cellCount (arraysIn table)) count → r ≡ readied (readyToLoad whole words count)
+    unfolding countedOn readied
+    judge-accepted r q =
+        let p = passes whole words table ends c e f t in
+        let (n, read) = image-read words (p .known .read) in
+        let read2 : readImage whole words ≡ got (imageIn words) n = ap (λ (b : Bool). readImage b words) (p .isWhole) ∙ read in
+        let same : cellCount (arraysIn table) ≡ cellCount (imageIn words .arrays) = ap cellCount (known-arrays words table (p .known)) in
+        q ∙ (rw (same, ready-accepted whole words count (imageIn words) n read2 (sym e ∙ f)) (go (leb (cellCount (imageIn words .arrays)) count)))
       where
-        own : (tree : Image) (end : ℕ) → readImage whole words ≡ got tree end → cellCount (arraysIn words) ≡ cellCount (tree .arrays)
-        own tree end s = ap cellCount (arrays-part (open-image whole words tree end s))
-
-        serves : (tree : Image) (end cells : ℕ) → readImage whole words ≡ got tree end → cells ≡ cellCount (arraysIn words)
-            → cellCount (arraysIn words) ≤ count → Serves whole words cells count params places ends tree
-        serves tree end cells s b h =
-            let o = own tree end s in
-            record {
-              end = end;
-              read = s;
-              own = b ∙ o;
-              enough = omega arith;
-              few = (let m = cells-limit (open-image whole words tree end s) in omega arith);
-              tables = tables-of (readImage whole words) words params places ends tree end t s;
-            }
-
-        go : (tree : Image) (end : ℕ) → readImage whole words ≡ got tree end → (b : Bool) → leb (cellCount (arraysIn words)) count ≡ b
-            → r ≡ pick b (Words (length words) (cellCount (arraysIn words))) (Unready 17 0) → Judged r whole words count params places ends
-        go tree end s true g u =
-            let fits : cellCount (arraysIn words) ≤ count = leb-true (cellCount (arraysIn words)) count g in
-            let o = own tree end s in
-            let good : readyToLoad whole words count ≡ ready tree =
-            ready-accepted whole words count tree end s (sym e ∙ f) ∙ enough-cells tree count (omega arith) in
-            record {
-              refusal = λ k p v. absurd (let z : _≡_ {A = ℕ} 0 1 = cc in omega arith);
-              accepted = λ n cells v.
-                  let a : length words ≡ n = cc in
-                  let b : cellCount (arraysIn words) ≡ cells = cc in
-                  (tree, serves tree end cells s (sym b) fits, good, sym a);
-            }
-        go tree end s false g u =
-            let short : count < cellCount (arraysIn words) = leb-false (cellCount (arraysIn words)) count g in
-            let o = own tree end s in
-            let bad : readyToLoad whole words count ≡ unready 17 0 =
-            ready-accepted whole words count tree end s (sym e ∙ f) ∙ few-cells tree count (omega arith) in
-            record {
-              refusal = λ k p v.
-                  let a : 17 ≡ k = cc in
-                  let b : 0 ≡ p = cc in
-                  rw (← a, ← b) (bad, omega arith);
-              accepted = λ n cells v. absurd (let z : _≡_ {A = ℕ} 0 1 = cc in omega arith);
-            }
-
--- the part that starts at 0
-pub part-judged : (words part : List ℕ) (n : ℕ) (r : Ready) (whole : Bool) (count : ℕ) (params places ends : List ℕ) → part ≡ take (n - 0) (drop 0 words)
-    → Judged r whole part count params places ends → Judged r whole (take n words) count params places ends
-part-judged words part n r whole count params places ends e j =
-    let z : n - 0 ≡ n = omega arith in
-    let q : part ≡ take n words = e ∙ ap (λ (k : ℕ). take k words) z in
-    rw q at j
+        go : (b : Bool) → pick b (Cells (cellCount (imageIn words .arrays))) (Unready 17 0) ≡ readied (pick b (ready (imageIn words)) (unready 17 0))
+        go true = refl
+        go false = refl
 
 -- ---- lent bytes
 
--- as many elements as a front has are that front
-take-own : (n : ℕ) (l : List ℕ) → take (length (take n l)) l ≡ take n l
-take-own n l = rw length-take (go (leb n (length l)) refl)
-  where
-    go : (b : Bool) → leb n (length l) ≡ b → take (min n (length l)) l ≡ take n l
-    go true e = let z : min n (length l) ≡ n = (let h = leb-true n (length l) e in omega arith) in rw z
-    go false e =
-        let h = leb-false n (length l) e in
-        let z : min n (length l) ≡ length l = omega arith in rw z (take-all (length l) l (omega arith) ∙ sym (take-all n l (omega arith)))
+module _ (image : List ℕ) (n : ℕ) (words words′ : List ℕ) (e : take n words′ ≡ take 16384 (wordsOf image)) (whole : Bool)
+    (w : whole ≡ (wholeWords image && leb (length (wordsOf image)) 16384)) where
+  reads : readImage whole (take n words′) ≡ readImage (wholeWords image) (wordsOf image)
+  reads = same-read image (take n words′) whole e w
 
-module _ (image words : List ℕ) (n count : ℕ) (e : take n words ≡ take 16384 (wordsOf image)) (whole : Bool)
-    (w : whole ≡ (wholeWords image && leb (length (wordsOf image)) 16384)) (params places ends : List ℕ) (r : Ready)
-    (j : Judged r whole (take n words) count params places ends) where
-  reads : readImage whole (take n words) ≡ readImage (wholeWords image) (wordsOf image)
-  reads = same-read image (take n words) whole e w
-
-  same-ready : readyToLoad whole (take n words) count ≡ readyToLoad (wholeWords image) (wordsOf image) count
+  same-ready : (count : ℕ) → readyToLoad whole (take n words′) count ≡ readyToLoad (wholeWords image) (wordsOf image) count
   unfolding readyToLoad admitted
-  same-ready = ap (λ (x : Parse Image). withCells (withoutFault x) count) reads
+  same-ready count = ap (λ (x : Parse Image). withCells (withoutFault x) count) reads
 
-  part-length : length (take n words) ≤ 16384
-  part-length = rw (e, length-take) (omega arith)
+  same-tables : (table ends : List ℕ) → TablesLeft (readImage whole (take n words′)) (take n words′) table ends
+      → TablesLeft (readImage (wholeWords image) (wordsOf image)) (wordsOf image) table ends
+  unfolding TablesLeft
+  same-tables table ends t = go (readImage (wholeWords image) (wordsOf image)) refl (rw reads at t)
+    where
+      go : (x : Parse Image) → readImage (wholeWords image) (wordsOf image) ≡ x → TablesLeft x (take n words′) table ends → TablesLeft x (wordsOf image) table ends
+      go (got tree m) q s =
+          let i = open-image (wholeWords image) (wordsOf image) tree m q in
+          let spelled : take n words′ ≡ wordsOf image = e ∙ take-all 16384 (wordsOf image) (length-limit i) in
+          rw spelled at s
+      go (refused k p) q s = s
 
-  taken : (m cells : ℕ) (tree : Image) → Serves whole (take n words) cells count params places ends tree
-      → readyToLoad whole (take n words) count ≡ ready tree → m ≡ length (take n words)
-      → (t : Image) × (Serves true (wordsOf image) cells count params places ends t) × (readyToLoad (wholeWords image) (wordsOf image) count ≡ ready t)
-      × (take m words ≡ wordsOf image) × (m ≤ length words)
-  taken m cells tree a b l =
-      let read : readImage (wholeWords image) (wordsOf image) ≡ got tree (a .end) = sym reads ∙ a .read in
-      let i = open-image (wholeWords image) (wordsOf image) tree (a .end) read in
-      let spelled : take n words ≡ wordsOf image = e ∙ take-all 16384 (wordsOf image) (length-limit i) in (
-        tree,
-        record {
-          end = a .end;
-          read = ap (λ (z : Bool). readImage z (wordsOf image)) (sym (i .isWhole)) ∙ read;
-          own = a .own;
-          enough = a .enough;
-          few = a .few;
-          tables = rw spelled at (a .tables);
-        },
-        sym same-ready ∙ b,
-        (rw l (take-own n words)) ∙ spelled,
-        (let s = length-take n words in omega arith),
-      )
-
-  pub load-prepared : Prepared r (readyToLoad (wholeWords image) (wordsOf image) count) image words count params places ends
-  load-prepared =
+  pub load-prepared : n ≡ min (length image / 4) 16384 → drop n words′ ≡ drop n words → (count : ℕ) (r : Ready) (table ends : List ℕ)
+      → r ≡ readied (readyToLoad whole (take n words′) count) → TablesLeft (readImage whole (take n words′)) (take n words′) table ends
+      → Prepared r (readyToLoad (wholeWords image) (wordsOf image) count) image words words′ table ends
+  load-prepared c b count r table ends a t =
       record {
-        refusal = λ k p s. let (a, b) = j .refusal k p s in (sym same-ready ∙ a, (let l = part-length in omega arith));
-        accepted = λ m cells s. let (tree, a, b, l) = j .accepted m cells s in taken m cells tree a b l;
+        answer = a ∙ ap readied (same-ready count);
+        tables = same-tables table ends t;
+        front = rw (← c) e;
+        behind = rw (← c) b;
       }
 
-pub serve-empty : (image words : List ℕ) (count : ℕ) (params places ends : List ℕ) → length image ≡ 0
-    → Prepared (Unready 20 0) (readyToServe (wholeWords image) (wordsOf image) count) image words count params places ends
-unfolding readyToServe
-serve-empty image words count params places ends e =
-    record {
-      refusal = λ k p s.
-          let a : 20 ≡ k = cc in
-          let b : 0 ≡ p = cc in
-          let none : length (wordsOf image) ≡ 0 = length-wordsOf image ∙ (rw e) in
-          rw (← a, ← b, e, none) (refl, omega arith);
-      accepted = λ n m s. absurd (let z : _≡_ {A = ℕ} 0 1 = cc in omega arith);
-    }
+-- ---- an empty image
+
+module _ (image : List ℕ) (h : length image ≡ 0) where
+  no-words : length (wordsOf image) ≡ 0
+  no-words = length-wordsOf image ∙ (rw h)
+
+  pub empty-answer : (count : ℕ) → Unready 20 0 ≡ readied (readyToServe (wholeWords image) (wordsOf image) count)
+  unfolding readyToServe readied
+  empty-answer count = rw (h, no-words)
+
+  empty-read : readImage (wholeWords image) (wordsOf image) ≡ refused 1 0
+  unfolding readImage
+  empty-read = rw no-words
+
+  pub empty-table : (table : List ℕ) → table ≡ replicate 129 0 → table ≡ tableLeft (readImage (wholeWords image) (wordsOf image))
+  unfolding tableLeft
+  empty-table table z = rw empty-read z
+
+  pub serve-empty : (count : ℕ) (words table ends : List ℕ) → table ≡ replicate 129 0 → ends ≡ replicate (length ends) 0
+      → Prepared (Unready 20 0) (readyToServe (wholeWords image) (wordsOf image) count) image words words table ends
+  unfolding TablesLeft
+  serve-empty count words table ends t s =
+      let n : min (length image / 4) 16384 ≡ 0 = rw h in
+      record {
+        answer = empty-answer count;
+        tables = rw empty-read (t, s);
+        front = rw n (sym (take-all 16384 (wordsOf image) (let z = no-words in omega arith) ∙ none (wordsOf image) no-words));
+        behind = refl;
+      }
+    where
+      none : (l : List ℕ) → length l ≡ 0 → l ≡ []
+      none [] z = refl
+      none (x ∷ l) z = absurd (omega arith)
 
 not-empty : (image : List ℕ) → (length image ≡ 0 → ⊥) → wholeWords image && eqb (length (wordsOf image)) 0 ≡ false
 not-empty image h = go (eqb (length image % 4) 0) (eqb (length (wordsOf image)) 0) refl refl
@@ -201,8 +143,22 @@ not-empty image h = go (eqb (length image % 4) 0) (eqb (length (wordsOf image)) 
     go true false p q = refl
     go false b p q = refl
 
-pub serve-some : (image words : List ℕ) (count : ℕ) (params places ends : List ℕ) (r : Ready) → (length image ≡ 0 → ⊥)
-    → Prepared r (readyToLoad (wholeWords image) (wordsOf image) count) image words count params places ends
-    → Prepared r (readyToServe (wholeWords image) (wordsOf image) count) image words count params places ends
+pub serve-some : (image : List ℕ) → (length image ≡ 0 → ⊥) → (count : ℕ)
+    → readyToServe (wholeWords image) (wordsOf image) count ≡ readyToLoad (wholeWords image) (wordsOf image) count
 unfolding readyToServe
-serve-some image words count params places ends r h p = rw (not-empty image h) p
+serve-some image h count = rw (not-empty image h)
+
+pub some-prepared : (image : List ℕ) → (length image ≡ 0 → ⊥) → (count : ℕ) (r : Ready) (words words′ table ends : List ℕ)
+    → Prepared r (readyToLoad (wholeWords image) (wordsOf image) count) image words words′ table ends
+    → Prepared r (readyToServe (wholeWords image) (wordsOf image) count) image words words′ table ends
+some-prepared image h count r words words′ table ends p = rw (serve-some image h count) p
+
+-- the table alone
+pub left-table : (image : List ℕ) (x : Readiness) (r : Ready) (words words′ table ends : List ℕ) → Prepared r x image words words′ table ends
+    → (r ≡ readied x) × (table ≡ tableLeft (readImage (wholeWords image) (wordsOf image)))
+unfolding TablesLeft tableLeft
+left-table image x r words words′ table ends p = (p .answer, go (readImage (wholeWords image) (wordsOf image)) (p .tables))
+  where
+    go : (y : Parse Image) → TablesLeft y (wordsOf image) table ends → table ≡ tableLeft y
+    go (got tree n) t = t .filled
+    go (refused k q) t = t .0

@@ -1,44 +1,47 @@
--- What the code's answer says of whether a request can work on a lent image. Assumes nothing.
-use mathlib.Core.Path.{_≡_}
-use mathlib.Core.Bool.{Bool, true}
-use mathlib.Core.List.{List}
-use Prim.Native.Nat.{ℕ, _≤_}
+-- What the code's answer says of whether a request can work on a lent image, and what it leaves. Assumes nothing.
+use mathlib.Core.Path.{_≡_, refl}
+use mathlib.Core.List.{List, []}
+use Prim.Native.Nat.{ℕ, _/_, min}
 use lib.Dec.{leb}
-use lib.ListN.{length, getD, take, drop}
+use lib.ListN.{length, take, drop, replicate}
 use Rattle.definitions.specs.Choice.{pick}
 use Rattle.definitions.specs.Bytes.{wordsOf}
-use Rattle.definitions.specs.Image.{Image, arraysOf, cellCount}
-use Rattle.definitions.specs.Reading.{got, readImage}
-use Rattle.definitions.specs.Requests.{ready, unready, readyToLoad, Ready as Readiness}
-use Rattle.reader.specs.Tables.{Tables}
+use Rattle.definitions.specs.Image.{Image, cellCount}
+use Rattle.definitions.specs.Reading.{Parse, got, refused, readImage}
+use Rattle.definitions.specs.Requests.{ready, unready, Ready as Readiness}
+use Rattle.definitions.specs.Host.{wholeWords}
+use Rattle.tables.specs.Table.{tableOf}
+use Rattle.reader.specs.Left.{TablesLeft}
 use Rattle.ready.specs.declared.Ready.{Ready}
-use Rattle.ready.specs.declared.Ready.the-variants.{Words, Unready}
+use Rattle.ready.specs.declared.Ready.the-variants.{Cells, Unready}
 
--- the array words, by the header
-abbrev pub arraysIn : List ℕ → List ℕ
-arraysIn words = take (arraysOf (getD words 0 0)) (drop 1 words)
+-- an accepted image with so many cells, where `count` are lent
+unfoldable pub countedOn : ℕ → ℕ → Ready
+countedOn cells count = pick (leb cells count) (Cells cells) (Unready 17 0)
 
--- an accepted image, where so many cells are lent
-unfoldable pub countedOn : List ℕ → ℕ → Ready
-countedOn words count = pick (leb (cellCount (arraysIn words)) count) (Words (length words) (cellCount (arraysIn words))) (Unready 17 0)
+-- the definition's answer, of an image that is ready the number of its cells
+unfoldable pub readied : Readiness → Ready
+readied (ready tree) = Cells (cellCount (tree .arrays))
+readied (unready k p) = Unready k p
 
--- an image whose words were accepted, with the cells lent for it: its tree, and what reading it left in the tables
-pub record Serves (whole : Bool) (words : List ℕ) (cells count : ℕ) (params places ends : List ℕ) (tree : Image) : Type 0 where
-  pub end : ℕ
-  pub read : readImage whole words ≡ got tree end
-  pub own : cells ≡ cellCount (tree .arrays)
-  pub enough : cells ≤ count
-  pub few : cells ≤ 1024
-  pub tables : Tables words tree params places ends
+pub readied-cells : (x : Readiness) (r : Ready) (n : ℕ) → r ≡ readied x → r ≡ Cells n → (tree : Image) × (x ≡ ready tree) × (n ≡ cellCount (tree .arrays))
+unfolding readied
+readied-cells (ready tree) r n e f = (tree, refl, cc)
+readied-cells (unready k p) r n e f = (record { form = 0; arrays = []; procedures = [] }, cc, cc)
 
--- the answer for words
-pub record Judged (r : Ready) (whole : Bool) (words : List ℕ) (count : ℕ) (params places ends : List ℕ) : Type 0 where
-  pub refusal : (k p : ℕ) → r ≡ Unready k p → (readyToLoad whole words count ≡ unready k p) × (p ≤ length words)
-  pub accepted : (n cells : ℕ) → r ≡ Words n cells
-      → (tree : Image) × (Serves whole words cells count params places ends tree) × (readyToLoad whole words count ≡ ready tree) × (n ≡ length words)
+pub readied-not : (x : Readiness) (r : Ready) (k p : ℕ) → r ≡ readied x → r ≡ Unready k p → x ≡ unready k p
+unfolding readied
+readied-not (ready tree) r k p e f = cc
+readied-not (unready j q) r k p e f = cc
 
--- the answer for lent bytes, whose words are the first of the given ones
-pub record Prepared (r : Ready) (x : Readiness) (image words : List ℕ) (count : ℕ) (params places ends : List ℕ) : Type 0 where
-  pub refusal : (k p : ℕ) → r ≡ Unready k p → (x ≡ unready k p) × (p ≤ 16384)
-  pub accepted : (n cells : ℕ) → r ≡ Words n cells
-      → (tree : Image) × (Serves true (wordsOf image) cells count params places ends tree) × (x ≡ ready tree) × (take n words ≡ wordsOf image) × (n ≤ length words)
+-- the table that reading an image leaves
+unfoldable pub tableLeft : Parse Image → List ℕ
+tableLeft (got tree n) = tableOf (tree .arrays) (tree .procedures)
+tableLeft (refused k p) = replicate 129 0
+
+-- lent bytes whose words were read to the front of `words`, with the tables that reading leaves
+pub record Prepared (r : Ready) (x : Readiness) (image words words′ table ends : List ℕ) : Type 0 where
+  pub answer : r ≡ readied x
+  pub tables : TablesLeft (readImage (wholeWords image) (wordsOf image)) (wordsOf image) table ends
+  pub front : take (min (length image / 4) 16384) words′ ≡ take 16384 (wordsOf image)
+  pub behind : drop (min (length image / 4) 16384) words′ ≡ drop (min (length image / 4) 16384) words

@@ -5,51 +5,53 @@ use mathlib.Core.List.{List, [], _∷_}
 use Prim.Native.Nat.{ℕ, zero, suc, _+_, _-_, _%_, _≤_, _<_}
 use native.Mathlib.Numerals.{add-one}
 use native.Mathlib.Omega.{arith}
-use borrow.Author.Tests.{le-ltb, lt-ltb, ltb-true}
+use borrow.Author.Tests.{le-ltb, lt-ltb, ltb-true, ltb-false}
 use lib.Dec.{ltb}
-use lib.ListN.{length, getD, drop, drop-of-length-le}
+use lib.ListN.{length, getD, drop, drop-of-length-le, length-take, List·getD-eq-default}
 use lib.Seq.{drop-cons}
 use Rattle.definitions.specs.Choice.{pick}
 use Rattle.definitions.specs.Image.{arrayLength, cellCount, baseOf}
 use Rattle.requests.specs.declared.cells.Slot.{Slot}
 use Rattle.requests.specs.declared.cells.Slot.the-variants.{At, Nothing}
-use Rattle.requests.specs.Cells.{hasCellIn, slotOf}
+use Rattle.tables.specs.Table.{arrayCountIn, arraysIn, baseIn}
+use Rattle.requests.specs.Cells.{hasCellIn, slotIn, Fits}
 
 false-true : {A : Type 0} → false ≡ true → A
 false-true e = let z : _≡_ {A = ℕ} 0 1 = ap (λ (b : Bool). pick b 1 0) e in absurd (omega arith)
 
-pub count-start : (ws : List ℕ) → 0 + cellCount (drop 0 ws) ≡ cellCount ws
-count-start ws = omega arith
+module _ (table : List ℕ) where
+  pub count-start : 0 + cellCount (drop 0 (arraysIn table)) ≡ cellCount (arraysIn table)
+  count-start = omega arith
 
-pub base-start : (ws : List ℕ) (a : ℕ) → 0 + baseOf (drop 0 ws) (a - 0) ≡ baseOf ws a
-base-start ws a = let e : a - 0 ≡ a = omega arith in rw e (omega arith)
+  past : (k : ℕ) → length (arraysIn table) ≤ k → drop k (arraysIn table) ≡ []
+  past k h = drop-of-length-le (arraysIn table) h
 
-module _ (ws : List ℕ) (k total : ℕ) where
-  pub count-more : (all : ℕ) → total + cellCount (drop k ws) ≡ all → k < length ws
-      → total + getD ws k 0 % 65536 + cellCount (drop (k + 1) ws) ≡ all
-  unfolding cellCount
-  count-more all e h =
-      let s : total + (getD ws k 0 % 65536 + cellCount (drop (suc k) ws)) ≡ all = rw (drop-cons ws k 0 h) at e in
-      rw add-one (omega arith)
+  module _ (k total all : ℕ) (e : total + cellCount (drop k (arraysIn table)) ≡ all) where
+    pub count-more : (w n m : ℕ) → w ≡ getD (arraysIn table) k 0 → n ≡ arrayLength w → m ≡ n → total + m + cellCount (drop (k + 1) (arraysIn table)) ≡ all
+    unfolding cellCount
+    count-more w n m hw hn hm = go (ltb k (length (arraysIn table))) refl
+      where
+        size : m ≡ arrayLength (getD (arraysIn table) k 0)
+        size = hm ∙ hn ∙ ap arrayLength hw
 
-  pub count-done : (all : ℕ) → total + cellCount (drop k ws) ≡ all → length ws ≤ k → total ≡ all
-  unfolding cellCount
-  count-done all e h =
-      let s : total + 0 ≡ all = rw (drop-of-length-le ws h) at e in omega arith
+        go : (b : Bool) → ltb k (length (arraysIn table)) ≡ b → total + m + cellCount (drop (k + 1) (arraysIn table)) ≡ all
+        go true q =
+            let s : total + (arrayLength (getD (arraysIn table) k 0) + cellCount (drop (suc k) (arraysIn table))) ≡ all =
+            rw (drop-cons (arraysIn table) k 0 (ltb-true k (length (arraysIn table)) q)) at e in
+            let z = size in
+            rw add-one (omega arith)
+        go false q =
+            let l = ltb-false k (length (arraysIn table)) q in
+            let none : getD (arraysIn table) k 0 ≡ 0 = List·getD-eq-default (arraysIn table) 0 l in
+            let zero : m ≡ 0 = size ∙ ap arrayLength none in
+            let s : total + 0 ≡ all = rw (drop-of-length-le (arraysIn table) l) at e in
+            rw (add-one, past (suc k) (omega arith)) (omega arith)
 
-  pub base-more : (a all : ℕ) → total + baseOf (drop k ws) (a - k) ≡ all → k < a → k < length ws
-      → total + getD ws k 0 % 65536 + baseOf (drop (k + 1) ws) (a - (k + 1)) ≡ all
-  unfolding baseOf
-  base-more a all e h l =
-      let one : a - k ≡ suc (a - suc k) = omega arith in
-      let s : total + (getD ws k 0 % 65536 + baseOf (drop (suc k) ws) (a - suc k)) ≡ all = rw (drop-cons ws k 0 l, one) at e in
-      rw add-one (omega arith)
-
-  pub base-done : (a all : ℕ) → total + baseOf (drop k ws) (a - k) ≡ all → a ≤ k → k < length ws → total ≡ all
-  unfolding baseOf
-  base-done a all e h l =
-      let none : a - k ≡ 0 = omega arith in
-      let s : total + 0 ≡ all = rw (drop-cons ws k 0 l, none) at e in omega arith
+    pub count-done : (n : ℕ) → n ≡ arrayCountIn table → n ≤ k → total ≡ all
+    unfolding cellCount
+    count-done n hn h =
+        let few = length-take (arrayCountIn table) table in
+        let s : total + 0 ≡ all = rw (past k (omega arith)) at e in omega arith
 
 -- the cells of an array end within those of all
 pub base-within : (ws : List ℕ) (a : ℕ) → a < length ws → baseOf ws a + arrayLength (getD ws a 0) ≤ cellCount ws
@@ -58,36 +60,47 @@ base-within [] a h = absurd (omega arith)
 base-within (w ∷ ws) zero h = omega arith
 base-within (w ∷ ws) (suc a) h = let s = base-within ws a (omega arith) in omega arith
 
-module _ (arrays : List ℕ) (a i : ℕ) where
-  pub no-array : length arrays ≤ a → Nothing ≡ slotOf arrays a i
-  unfolding slotOf
-  no-array h = rw (le-ltb a (length arrays) h)
+module _ (table : List ℕ) (a i : ℕ) (n b : ℕ) (hn : n ≡ arrayCountIn table) (hb : b ≡ a) where
+  pub no-array : n ≤ b → Nothing ≡ slotIn table a i
+  unfolding slotIn
+  no-array h = rw (le-ltb a (arrayCountIn table) (omega arith))
 
-  pub no-cell : a < length arrays → getD arrays a 0 % 65536 ≤ i → Nothing ≡ slotOf arrays a i
-  unfolding slotOf
-  no-cell h g = rw (lt-ltb a (length arrays) h, le-ltb i (arrayLength (getD arrays a 0)) g)
+  module _ (h : b < n) (w l : ℕ) (hw : w ≡ getD (arraysIn table) a 0) (hl : l ≡ arrayLength w) where
+    size : l ≡ arrayLength (getD (arraysIn table) a 0)
+    size = hl ∙ ap arrayLength hw
 
-  pub cell-found : (base : ℕ) → base ≡ baseOf arrays a → a < length arrays → i < getD arrays a 0 % 65536 → At (base + i) ≡ slotOf arrays a i
-  unfolding slotOf
-  cell-found base e h g = rw (lt-ltb a (length arrays) h, lt-ltb i (arrayLength (getD arrays a 0)) g, e)
+    pub no-cell : l ≤ i → Nothing ≡ slotIn table a i
+    unfolding slotIn
+    no-cell g = rw (lt-ltb a (arrayCountIn table) (omega arith), ← size, le-ltb i l g)
 
-  -- the two ways out of finding a cell
-  pub slot-at : (s : Slot) (n : ℕ) → s ≡ slotOf arrays a i → s ≡ At n → (hasCellIn arrays a i ≡ true) × (n ≡ baseOf arrays a + i)
-  unfolding slotOf
-  slot-at s n e f = go (hasCellIn arrays a i) (sym f ∙ e)
+    pub cell-found : (base c j : ℕ) → base ≡ baseIn table a → c ≡ base → j ≡ i → i < l → At (c + j) ≡ slotIn table a i
+    unfolding slotIn
+    cell-found base c j e hc hj g = rw (lt-ltb a (arrayCountIn table) (omega arith), ← size, lt-ltb i l g, hc, hj, e)
+
+-- the two ways out of finding a cell
+module _ (table : List ℕ) (a i count : ℕ) (fits : Fits table count) (s : Slot) (e : s ≡ slotIn table a i) where
+  pub slot-at : (n : ℕ) → s ≡ At n → (hasCellIn (arraysIn table) a i ≡ true) × (n ≡ baseOf (arraysIn table) a + i)
+  unfolding slotIn
+  slot-at n f = go (ltb a (arrayCountIn table)) (ltb i (arrayLength (getD (arraysIn table) a 0))) refl refl (sym f ∙ e)
     where
-      go : (b : Bool) → At n ≡ pick b (At (baseOf arrays a + i)) Nothing → (b ≡ true) × (n ≡ baseOf arrays a + i)
-      go true q = (refl, cc)
-      go false q = (cc, cc)
+      go : (b d : Bool) → ltb a (arrayCountIn table) ≡ b → ltb i (arrayLength (getD (arraysIn table) a 0)) ≡ d
+          → At n ≡ pick (b && d) (At (baseIn table a + i)) Nothing → (hasCellIn (arraysIn table) a i ≡ true) × (n ≡ baseOf (arraysIn table) a + i)
+      go true true p q r =
+          let l = ltb-true a (arrayCountIn table) p in
+          let m : n ≡ baseIn table a + i = cc in
+          (rw (fits .listed, p, q), m ∙ ap (λ (k : ℕ). k + i) (fits .bases a (omega (arith, fits .listed))))
+      go true false p q r = (cc, cc)
+      go false d p q r = (cc, cc)
 
-  pub slot-nothing : (s : Slot) → s ≡ slotOf arrays a i → s ≡ Nothing → hasCellIn arrays a i ≡ false
-  unfolding slotOf
-  slot-nothing s e f = go (hasCellIn arrays a i) (sym f ∙ e)
+  pub slot-nothing : s ≡ Nothing → hasCellIn (arraysIn table) a i ≡ false
+  unfolding slotIn
+  slot-nothing f = rw (fits .listed) (go (ltb a (arrayCountIn table) && ltb i (arrayLength (getD (arraysIn table) a 0))) (sym f ∙ e))
     where
-      go : (b : Bool) → Nothing ≡ pick b (At (baseOf arrays a + i)) Nothing → b ≡ false
+      go : (b : Bool) → Nothing ≡ pick b (At (baseIn table a + i)) Nothing → b ≡ false
       go true q = cc
       go false q = refl
 
+module _ (arrays : List ℕ) (a i : ℕ) where
   -- a cell that is there stands among all cells
   pub cell-within : hasCellIn arrays a i ≡ true → baseOf arrays a + i < cellCount arrays
   cell-within t = go (ltb a (length arrays)) (ltb i (arrayLength (getD arrays a 0))) refl refl t

@@ -22,6 +22,10 @@ use Rattle.requests.specs.SpareCells.{peek-long, Spares, call-spare}
 abbrev pub afterwards : List ℕ → ℕ → Served → Answer × List ℕ
 afterwards cells n s = (s .0, bytesOf (s .1) ++ drop (4 * n) cells)
 
+-- the same for a call, with the lent trace
+abbrev pub afterCall : List ℕ → ℕ → List ℕ → Called → Answer × List ℕ × List ℕ
+afterCall cells n trace r = (r .0, bytesOf (r .1) ++ drop (4 * n) cells, lent trace (r .2))
+
 module _ (cells : List ℕ) (bytes : Bytes cells) where
   on-front : (n : ℕ) (r s : Served) → r ≡ behind (drop n (wordsOf cells)) s → length (s .1) ≡ n → 4 * n ≤ length cells
       → onCells cells r ≡ afterwards cells n s
@@ -113,7 +117,7 @@ module _ (cells : List ℕ) (bytes : Bytes cells) where
       -- a call: the trace words that it records go into the lent trace
       pub call-ready : (f : ℕ) (arguments : List ℕ) (budget : ℕ) (trace : List ℕ) (r : Called)
           → r ≡ calledOn tree (take n (wordsOf cells)) f (wordsOf arguments) budget (length (wordsOf trace))
-          → callBytes image cells f arguments budget trace ≡ (r .0, bytesOf (r .1) ++ drop (4 * n) cells, lent trace (r .2))
+          → callBytes image cells f arguments budget trace ≡ afterCall cells n trace r
       unfolding callBytes call servedCall
       call-ready f arguments budget trace r q = rw e (ap answered same ∙ ap front (lent-front cells (r .1) n bytes long h))
         where

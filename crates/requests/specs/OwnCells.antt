@@ -1,19 +1,12 @@
 -- What each request on an accepted image gives, on the image's own cells. Assumes nothing.
-use mathlib.Core.Path.{_≡_}
 use mathlib.Core.List.{List}
-use Prim.Native.Nat.{ℕ, _+_, _≤_}
-use lib.ListN.{length, getD, set, replicate}
+use Prim.Native.Nat.{ℕ, _+_}
+use lib.ListN.{getD, set, replicate}
 use Rattle.definitions.specs.Choice.{pick}
-use Rattle.definitions.specs.Image.{cellCount, baseOf}
+use Rattle.definitions.specs.Image.{baseOf}
 use Rattle.definitions.specs.Requests.{Served, carriedOut}
 use Rattle.definitions.specs.declared.Answer.the-variants.{Refused}
 use Rattle.requests.specs.Cells.{hasCellIn}
-
--- The arrays of an accepted image, and a machine with as many cells as they have.
-pub record Fits (arrays : List ℕ) (count : ℕ) : Type 0 where
-  pub few : length arrays ≤ 16
-  pub most : cellCount arrays ≤ 1024
-  pub all : count ≡ cellCount arrays
 
 -- What the definitions' requests do once the image is accepted: on the array words, where the cells are the image's own.
 unfoldable pub clearOn : ℕ → Served

@@ -1,9 +1,15 @@
 // The cells of an image: its arrays in order.
+use image_words::array_length;
+use image_words::lists::wide;
+use tables::SIZE;
+use tables::array;
+use tables::array_count;
+use tables::base;
 ghost use mathlib.Core.Path.{_≡_};
-ghost use Prim.Native.Nat.{_<_, _≤_};
-ghost use lib.ListN.{length};
-ghost use Rattle.definitions.specs.Image.{cellCount, baseOf};
-ghost use Rattle.requests.specs.Cells.{slotOf};
+ghost use Prim.Native.Nat.{_≤_};
+ghost use Rattle.definitions.specs.Image.{cellCount};
+ghost use Rattle.tables.specs.Table.{arrayCountIn, arraysIn};
+ghost use Rattle.requests.specs.Cells.{slotIn};
 
 // Where a cell stands among all cells, if there is such a cell.
 pub enum Slot {
@@ -12,45 +18,29 @@ pub enum Slot {
 }
 
 // The number of cells of all arrays.
-pub fn cell_count(arrays: &[u32]) -> usize
-    requires { ⌜ length (now arrays) ≤ 16 ⌝ }
-    ensures { λ r. ⌜ r ≡ cellCount (now (arrays .entry)) ⌝ }
+pub fn cell_count(table: &[u32; SIZE]) -> usize
+    requires { ⌜ arrayCountIn (now table) ≤ 16 ⌝ }
+    ensures { λ r. ⌜ r ≡ cellCount (arraysIn (now (table .entry))) ⌝ }
 {
+    let count = array_count(table);
     let mut total = 0;
-    let mut k = 0;
-    while k < arrays.len() {
-        total += (arrays[k] % 65536) as usize;
-        k += 1;
-    }
-    total
-}
-
-// The number of cells of the arrays before array a.
-fn base_of(arrays: &[u32], a: usize) -> usize
-    requires { ⌜ (a < length (now arrays)) × (length (now arrays) ≤ 16) ⌝ }
-    ensures { λ r. ⌜ r ≡ baseOf (now (arrays .entry)) a ⌝ }
-{
-    let mut total = 0;
-    let mut k = 0;
-    while k < a {
-        total += (arrays[k] % 65536) as usize;
+    let mut k: u32 = 0;
+    while wide(k) < count {
+        total += wide(array_length(array(table, k)));
         k += 1;
     }
     total
 }
 
 // Cell i of array a.
-pub fn find_cell(arrays: &[u32], a: u32, i: u32) -> Slot
-    requires { ⌜ (length (now arrays) ≤ 16) × (cellCount (now arrays) ≤ 1024) ⌝ }
-    ensures { λ r. ⌜ r ≡ slotOf (now (arrays .entry)) a i ⌝ }
+pub fn find_cell(table: &[u32; SIZE], a: u32, i: u32) -> Slot
+    ensures { λ r. ⌜ r ≡ slotIn (now (table .entry)) a i ⌝ }
 {
-    let array = a as usize;
-    let index = i as usize;
-    if arrays.len() <= array {
+    if array_count(table) <= wide(a) {
         return Slot::Nothing;
     }
-    if arrays[array] % 65536 <= i {
+    if array_length(array(table, a)) <= i {
         return Slot::Nothing;
     }
-    Slot::At(base_of(arrays, array) + index)
+    Slot::At(wide(base(table, a)) + wide(i))
 }

@@ -13,7 +13,7 @@ use Rattle.words.proofs.Laws.{Bytes, length-wordsOf, length-lent, lent-wordsOf}
 use Rattle.results.specs.Answers.{LoadRefusal, RequestRefusal, Checks, Compiles, writes, compile-refuses, Serves}
 use Rattle.results.specs.Answers.{carries-out, request-refuses, Calls, ends, stops, call-refuses, CallsBytes}
 use Rattle.results.specs.Answers.{ends-bytes, stops-bytes, call-refuses-bytes}
-use Rattle.results.specs.Images.{checks-image, compiles-image}
+use Rattle.results.specs.Images.{admits-image, checks-image, compiles-image}
 use Rattle.results.specs.Requests.{serves-load, serves-clear, serves-poke, serves-peek, calls-image}
 
 -- a slice of bytes keeps its length under as many words as it holds
@@ -48,23 +48,23 @@ compiles-bytes image out are = compiles-lent out are (compiles-image (wholeWords
 module _ (image cells : List ℕ) (are : Bytes cells) where
   pub loads-bytes : Serves (LoadRefusal (length (wordsOf image))) cells (loadBytes image cells)
   unfolding loadBytes
-  loads-bytes = serves-lent cells are (serves-load (wholeWords image) (wordsOf image) (wordsOf cells))
+  loads-bytes = serves-lent cells are (serves-load (wholeWords image) (wordsOf image) (admits-image (wholeWords image) (wordsOf image)) (wordsOf cells))
 
   pub clears-bytes : Serves (RequestRefusal (length (wordsOf image))) cells (clearBytes image cells)
   unfolding clearBytes
-  clears-bytes = serves-lent cells are (serves-clear (wholeWords image) (wordsOf image) (wordsOf cells))
+  clears-bytes = serves-lent cells are (serves-clear (wholeWords image) (wordsOf image) (admits-image (wholeWords image) (wordsOf image)) (wordsOf cells))
 
   pub pokes-bytes : (a i v : ℕ) → Serves (RequestRefusal (length (wordsOf image))) cells (pokeBytes image cells a i v)
   unfolding pokeBytes
-  pokes-bytes a i v = serves-lent cells are (serves-poke (wholeWords image) (wordsOf image) (wordsOf cells) a i v)
+  pokes-bytes a i v = serves-lent cells are (serves-poke (wholeWords image) (wordsOf image) (admits-image (wholeWords image) (wordsOf image)) (wordsOf cells) a i v)
 
   pub peeks-bytes : (a i : ℕ) → Serves (RequestRefusal (length (wordsOf image))) cells (peekBytes image cells a i)
   unfolding peekBytes
-  peeks-bytes a i = serves-lent cells are (serves-peek (wholeWords image) (wordsOf image) (wordsOf cells) a i)
+  peeks-bytes a i = serves-lent cells are (serves-peek (wholeWords image) (wordsOf image) (admits-image (wholeWords image) (wordsOf image)) (wordsOf cells) a i)
 
   pub calls-bytes : (f : ℕ) (arguments : List ℕ) (budget : ℕ) (trace : List ℕ)
       → CallsBytes (length (wordsOf image)) cells budget trace (callBytes image cells f arguments budget trace)
   unfolding callBytes
   calls-bytes f arguments budget trace =
       calls-lent cells are trace (length-wordsOf trace)
-      (calls-image (wholeWords image) (wordsOf image) (wordsOf cells) f (wordsOf arguments) budget (length (wordsOf trace)))
+      (calls-image (wholeWords image) (wordsOf image) (admits-image (wholeWords image) (wordsOf image)) (wordsOf cells) f (wordsOf arguments) budget (length (wordsOf trace)))

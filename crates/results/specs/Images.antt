@@ -126,8 +126,10 @@ compiles-within : {n room : ℕ} {out : List ℕ} {x : Compiled × List ℕ} →
 compiles-within (writes k after h e) = omega arith
 compiles-within (compile-refuses k p r) = refusal-within r
 
-pub checked-within : (whole : Bool) (image : List ℕ) → checkedPlace (checked whole image) ≤ length image
-checked-within whole image = checks-within (checks-image whole image)
+pub checked-within : {n : ℕ} (whole : Bool) (image : List ℕ) → Admits n (admitted whole image) → checkedPlace (checked whole image) ≤ n
+unfolding checked
+checked-within whole image a = checks-within (verdict-checks a)
 
-pub compiled-within : (whole : Bool) (image out : List ℕ) → compiledPlace (compiled whole image out .0) ≤ length image
-compiled-within whole image out = compiles-within (compiles-image whole image out)
+pub compiled-within : {n : ℕ} (whole : Bool) (image out : List ℕ) → Admits n (admitted whole image) → compiledPlace (compiled whole image out .0) ≤ n
+unfolding compiled
+compiled-within whole image out a = compiles-within (tree-compiles out a)

@@ -10,20 +10,20 @@ use lib.ListN.{length, length-set, length-append, length-replicate, length-drop}
 use Rattle.definitions.specs.Choice.{pick}
 use Rattle.definitions.specs.declared.Answer.the-variants.{Refused}
 use Rattle.definitions.specs.Image.{cellCount, baseOf, Procedure, Image, procedureAt}
-use Rattle.definitions.specs.Reading.{Parse, got, readImage}
+use Rattle.definitions.specs.Reading.{Parse, got}
+use Rattle.definitions.specs.Checking.{admitted}
 use Rattle.definitions.specs.Running.{traceWords, Ran, Given, gave}
 use Rattle.definitions.specs.Requests.{Ready, ready, unready, withCells, readyToLoad, readyToServe, Served, served}
 use Rattle.definitions.specs.Requests.{carriedOut, zeroed, load, clear, hasCell, poke, peek, Called, argumentValues}
 use Rattle.definitions.specs.Requests.{ended, calledOn, servedCall, call}
 use Rattle.laws.specs.Trees.{ProceduresPlaces}
-use Rattle.laws.specs.ReadImages.{open-image}
 use Rattle.results.specs.Runs.{Claim, Runs, goes, halts, Gives, procedure-runs}
 use Rattle.results.specs.Answers.{LoadRefusal, image-not-loaded, cells-short, RequestRefusal, as-load}
 use Rattle.results.specs.Answers.{no-such-cell, nothing-loaded, CallRefusal, as-request, no-such-procedure}
 use Rattle.results.specs.Answers.{argument-count, Stop, budget-spent, trace-full, beyond-array, divisor-0}
 use Rattle.results.specs.Answers.{Recorded, Serves, carries-out, request-refuses, Calls, ends, stops}
 use Rattle.results.specs.Answers.{call-refuses}
-use Rattle.results.specs.Images.{Admits, admits, admits-not, admits-image, image-within}
+use Rattle.results.specs.Images.{Admits, admits, admits-not, image-within}
 use Rattle.results.specs.Named.{answerPlace}
 
 -- an image of n words that a request can work on, with its cells among those that are lent; or one of its refusals
@@ -40,21 +40,22 @@ readies-tree {n} count (admits tree m h) = go (leb (cellCount (tree .arrays)) co
     go true e = readies tree h (leb-true _ _ e)
     go false e = readies-not 17 0 cells-short
 
-module _ (whole : Bool) (image : List ℕ) (count : ℕ) where
-  readies-load : Readies (length image) count (LoadRefusal (length image)) (readyToLoad whole image count)
+-- n is the number of the image's words, or of the first of them that tell its answer
+module _ {n : ℕ} (whole : Bool) (image : List ℕ) (a : Admits n (admitted whole image)) (count : ℕ) where
+  readies-load : Readies n count (LoadRefusal n) (readyToLoad whole image count)
   unfolding readyToLoad
-  readies-load = readies-tree count (admits-image whole image)
+  readies-load = readies-tree count a
 
-  readies-serve : Readies (length image) count (RequestRefusal (length image)) (readyToServe whole image count)
+  readies-serve : Readies n count (RequestRefusal n) (readyToServe whole image count)
   unfolding readyToServe
   readies-serve = go (whole && eqb (length image) 0) readies-load
     where
-      more : {x : Ready} → Readies (length image) count (LoadRefusal (length image)) x → Readies (length image) count (RequestRefusal (length image)) x
+      more : {x : Ready} → Readies n count (LoadRefusal n) x → Readies n count (RequestRefusal n) x
       more (readies tree h l) = readies tree h l
       more (readies-not k p r) = readies-not k p (as-load k p r)
 
-      go : (b : Bool) {x : Ready} → Readies (length image) count (LoadRefusal (length image)) x
-          → Readies (length image) count (RequestRefusal (length image)) (pick b (unready 20 0) x)
+      go : (b : Bool) {x : Ready} → Readies n count (LoadRefusal n) x
+          → Readies n count (RequestRefusal n) (pick b (unready 20 0) x)
       go true h = readies-not 20 0 nothing-loaded
       go false h = more h
 
@@ -74,24 +75,24 @@ serves-cell : {n : ℕ} {cells : List ℕ} (v : ℕ) (after : List ℕ) → leng
 serves-cell v after e true = carries-out v after e
 serves-cell v after e false = request-refuses 17 0 no-such-cell
 
-module _ (whole : Bool) (image cells : List ℕ) where
-  pub serves-load : Serves (LoadRefusal (length image)) cells (load whole image cells)
+module _ {n : ℕ} (whole : Bool) (image : List ℕ) (a : Admits n (admitted whole image)) (cells : List ℕ) where
+  pub serves-load : Serves (LoadRefusal n) cells (load whole image cells)
   unfolding load
-  serves-load = serves-ready (readies-load whole image (length cells)) (λ tree l. carries-out _ _ (length-zeroed tree cells l))
+  serves-load = serves-ready (readies-load whole image a (length cells)) (λ tree l. carries-out _ _ (length-zeroed tree cells l))
 
-  pub serves-clear : Serves (RequestRefusal (length image)) cells (clear whole image cells)
+  pub serves-clear : Serves (RequestRefusal n) cells (clear whole image cells)
   unfolding clear
-  serves-clear = serves-ready (readies-serve whole image (length cells)) (λ tree l. carries-out _ _ (length-zeroed tree cells l))
+  serves-clear = serves-ready (readies-serve whole image a (length cells)) (λ tree l. carries-out _ _ (length-zeroed tree cells l))
 
-  pub serves-poke : (a i v : ℕ) → Serves (RequestRefusal (length image)) cells (poke whole image cells a i v)
+  pub serves-poke : (b i v : ℕ) → Serves (RequestRefusal n) cells (poke whole image cells b i v)
   unfolding poke
-  serves-poke a i v =
-      serves-ready (readies-serve whole image (length cells))
-      (λ tree l. serves-cell 0 _ (length-set cells (baseOf (tree .arrays) a + i) v) (hasCell tree a i))
+  serves-poke b i v =
+      serves-ready (readies-serve whole image a (length cells))
+      (λ tree l. serves-cell 0 _ (length-set cells (baseOf (tree .arrays) b + i) v) (hasCell tree b i))
 
-  pub serves-peek : (a i : ℕ) → Serves (RequestRefusal (length image)) cells (peek whole image cells a i)
+  pub serves-peek : (b i : ℕ) → Serves (RequestRefusal n) cells (peek whole image cells b i)
   unfolding peek
-  serves-peek a i = serves-ready (readies-serve whole image (length cells)) (λ tree l. serves-cell _ cells refl (hasCell tree a i))
+  serves-peek b i = serves-ready (readies-serve whole image a (length cells)) (λ tree l. serves-cell _ cells refl (hasCell tree b i))
 
 -- ---- Call
 
@@ -149,19 +150,19 @@ unfolding servedCall
 calls-ready (readies tree h l) k = k tree h
 calls-ready (readies-not i p r) k = call-refuses i p (as-request i p r)
 
-pub calls-image : (whole : Bool) (image cells : List ℕ) (f : ℕ) (arguments : List ℕ) (budget room : ℕ)
-    → Calls (length image) cells budget room (call whole image cells f arguments budget room)
+pub calls-image : {n : ℕ} (whole : Bool) (image : List ℕ) → Admits n (admitted whole image) → (cells : List ℕ) (f : ℕ) (arguments : List ℕ) (budget room : ℕ)
+    → Calls n cells budget room (call whole image cells f arguments budget room)
 unfolding call
-calls-image whole image cells f arguments budget room =
-    calls-ready (readies-serve whole image (length cells)) (λ tree h. tree-calls (length image) tree h cells f arguments budget room)
+calls-image {n} whole image a cells f arguments budget room =
+    calls-ready (readies-serve whole image a (length cells)) (λ tree h. tree-calls n tree h cells f arguments budget room)
 
--- ---- the place that a call on an image that was read names
+-- ---- every place that is named is that of a word of the image, or the image's end, or 0
 
-load-within : {n k p : ℕ} → LoadRefusal n k p → p ≤ n
+pub load-within : {n k p : ℕ} → LoadRefusal n k p → p ≤ n
 load-within (image-not-loaded k p r) = image-within r
 load-within cells-short = omega arith
 
-request-within : {n k p : ℕ} → RequestRefusal n k p → p ≤ n
+pub request-within : {n k p : ℕ} → RequestRefusal n k p → p ≤ n
 request-within (as-load k p r) = load-within r
 request-within no-such-cell = omega arith
 request-within nothing-loaded = omega arith
@@ -171,12 +172,12 @@ call-within (as-request k p r) = request-within r
 call-within no-such-procedure = omega arith
 call-within argument-count = omega arith
 
-calls-within : {n budget room : ℕ} {cells : List ℕ} {x : Called} → Calls n cells budget room x → answerPlace (x .0) ≤ n
+pub calls-within : {n budget room : ℕ} {cells : List ℕ} {x : Called} → Calls n cells budget room x → answerPlace (x .0) ≤ n
 calls-within (ends v z after trace h r c) = omega arith
 calls-within (stops k p z trace s l h r) = omega arith
 calls-within (call-refuses k p r) = call-within r
 
-pub called-within : (whole : Bool) (image : List ℕ) (tree : Image) (m : ℕ) → readImage whole image ≡ got tree m
-    → (cells : List ℕ) (f : ℕ) (arguments : List ℕ) (budget room : ℕ) → answerPlace (calledOn tree cells f arguments budget room .0) ≤ length image
-called-within whole image tree m e cells f arguments budget room =
-    calls-within (tree-calls (length image) tree (open-image whole image tree m e .places) cells f arguments budget room)
+pub serves-within : {n : ℕ} {Refusal : ℕ → ℕ → Type 0} {cells : List ℕ} {x : Served} → ((k p : ℕ) → Refusal k p → p ≤ n) → Serves Refusal cells x
+    → answerPlace (x .0) ≤ n
+serves-within w (carries-out v after e) = omega arith
+serves-within w (request-refuses k p r) = w k p r

@@ -11,7 +11,7 @@ use Rattle.definitions.specs.Requests.{load, clear, poke, peek, call}
 use Rattle.definitions.specs.Host.{loadBytes, clearBytes, pokeBytes, peekBytes, callBytes, checkBytes, compileBytes}
 use Rattle.words.proofs.Laws.{Bytes}
 use Rattle.results.specs.Answers.{LoadRefusal, RequestRefusal, Checks, Compiles, Serves, Calls, CallsBytes}
-use Rattle.results.specs.Images.{checks-image, compiles-image}
+use Rattle.results.specs.Images.{admits-image, checks-image, compiles-image}
 use Rattle.results.specs.Requests.{serves-load, serves-clear, serves-poke, serves-peek, calls-image}
 use Rattle.results.specs.HostRequests.{checks-bytes, compiles-bytes, loads-bytes, clears-bytes, pokes-bytes}
 use Rattle.results.specs.HostRequests.{peeks-bytes, calls-bytes}
@@ -32,11 +32,11 @@ property-1 =
     record {
       checks = checks-image;
       compiles = compiles-image;
-      loads = serves-load;
-      clears = serves-clear;
-      pokes = serves-poke;
-      peeks = serves-peek;
-      calls = calls-image;
+      loads = λ whole image. serves-load whole image (admits-image whole image);
+      clears = λ whole image. serves-clear whole image (admits-image whole image);
+      pokes = λ whole image. serves-poke whole image (admits-image whole image);
+      peeks = λ whole image. serves-peek whole image (admits-image whole image);
+      calls = λ whole image. calls-image whole image (admits-image whole image);
     }
 
 -- The same for a host, which lends bytes.

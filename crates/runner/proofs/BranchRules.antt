@@ -1,192 +1,123 @@
 -- What each way out of an if and a for gives, and what each call in them asks. Assumes nothing.
 use mathlib.Core.Path.{_≡_, refl, sym, ap, _∙_}
-use mathlib.Core.Bool.{true}
 use mathlib.Core.List.{List}
-use Prim.Native.Nat.{ℕ, _+_, _-_, _≤_, _<_}
+use Prim.Native.Nat.{ℕ, _+_, _-_}
 use borrow.Author.Tests.{eq-eqb, ne-eqb}
-use lib.ListN.{length, getD}
+use lib.ListN.{getD}
 use Rattle.definitions.specs.Arithmetic.{truth}
 use Rattle.definitions.specs.Image.{opOf, targetOf, Expression, conditional, loop, Block}
 use Rattle.definitions.specs.Reading.{got, readExpression, readStatement, readBlock}
 use Rattle.definitions.specs.Running.{Evaluated, value, stop, bind, within, emit, taken, passes, Outcome, runStatement}
 use Rattle.definitions.specs.Running.{runBlock, Ran as Run, evaluate as valueOf}
-use Rattle.laws.specs.Parses.{ok, ok-of, endOf, end-of}
-use Rattle.laws.specs.StatementInversion.{open-block, open-if, open-for}
-use Rattle.reader.specs.Tables.{BlockEnds}
+use Rattle.laws.specs.ImageIn.{imageIn}
+use Rattle.laws.specs.Parses.{endOf, end-of}
+use Rattle.laws.specs.StatementInversion.{open-if, open-for}
+use Rattle.image_words.specs.Read.{StatementRead, BlockRead}
+use Rattle.image_words.specs.StatementParts.{block-got, read-then, read-else}
+use Rattle.tables.specs.Table.{paramsIn}
 use Rattle.tracing.specs.declared.Value.{Value}
 use Rattle.tracing.specs.declared.Value.the-variants.{Got, Stop}
 use Rattle.tracing.specs.Log.{Log, log, byteTrace}
 use Rattle.tracing.specs.Answers.{evaluation, until}
-use Rattle.laws.specs.ImageIn.{imageIn}
-use Rattle.evaluator.specs.Evaluation.{Readable}
 use Rattle.evaluator.specs.Results.{until-got, until-stop}
 use Rattle.runner.specs.declared.Ran.{Ran}
-use Rattle.runner.specs.declared.Ran.the-variants.{On, Back, Stop as Halt}
+use Rattle.runner.specs.declared.Ran.the-variants.{On, Stop as Halt}
 use Rattle.runner.specs.declared.Bounds.{Bounds}
-use Rattle.runner.specs.declared.Bounds.the-variants.{Both, Stop as NoBounds}
-use Rattle.runner.specs.Known.{paramsIn, Known, StatementRead, BlockRead, PairRead}
-use Rattle.runner.specs.Runs.{finished, placed, ending, callees, statementAt, blockAt, passesAt, branchAt, Range}
+use Rattle.runner.specs.declared.Bounds.the-variants.{Both, None}
+use Rattle.runner.specs.Runs.{finished, stoppedAt, placed, ending, callees, statementAt, blockAt, passesAt, branchAt, Range}
 use Rattle.runner.specs.Runs.{range, bounded, rangeNoted, bounds, boundsAt}
-use Rattle.runner.proofs.StatementRules.{within-two, part-readable, statement-place}
-use Rattle.runner.proofs.BlockRules.{block-on, block-returned, block-halt}
-
--- a block that was read, and its end
-module _ (l : ℕ) (image tables : List ℕ) (me : ℕ) where
-  pub block-read : (a : ℕ) (b : Block) (n : ℕ) → readBlock l (paramsIn tables) me image a ≡ got b n → BlockRead l image tables me a
-  block-read a b n w =
-      let t = ok-of (readBlock l (paramsIn tables) me image a) b n w in
-      let (deep, within, good, s, q) = open-block l (paramsIn tables) me image a t in record { deep = deep; within = within; read = t }
-
-  pub end-asks : (ends : List ℕ) → Known image tables ends me → (a : ℕ) (b : Block) (n : ℕ) → readBlock l (paramsIn tables) me image a ≡ got b n
-      → (80 ≤ length tables) × (BlockEnds image (paramsIn tables) ends) × (ok (readBlock l (paramsIn tables) me image a) ≡ true)
-  end-asks ends k a b n w = (k .long, k .blockEnds, ok-of (readBlock l (paramsIn tables) me image a) b n w)
-
-  pub end-is : (a e : ℕ) (b : Block) (n : ℕ) → readBlock l (paramsIn tables) me image a ≡ got b n → e ≡ endOf (readBlock l (paramsIn tables) me image a) → e ≡ n
-  end-is a e b n w h = h ∙ end-of (readBlock l (paramsIn tables) me image a) b n w
+use Rattle.runner.proofs.StatementRules.{within-two}
+use Rattle.runner.proofs.BlockRules.{Ended, ended-same, at-block, block-on, block-end}
 
 -- ---- if
 
-module _ (l : ℕ) (image tables ends : List ℕ) (me at : ℕ) (g : StatementRead l image tables me at) (k : Known image tables ends me) (h : opOf (getD image at 0) ≡ 2) where
-  pub if-fine : (Readable (l - 1) image tables (at + 1)) × (at < 268435456)
-  if-fine =
-      let (c, n, x, m, y, o, w, v, u, q) = open-if l (paramsIn tables) me image at (g .read) h in
-      (part-readable l image tables me at g (at + 1) c n w, statement-place l image tables me at g)
+module _ (l : ℕ) (image table : List ℕ) (me at : ℕ) (g : StatementRead l (paramsIn table) me image at) (h : opOf (getD image at 0) ≡ 2)
+    (budget : ℕ) (vs cs slice : List ℕ) (used z : ℕ) (r : Value) (slice1 : List ℕ)
+    (d : evaluation r slice1 ≡ branchAt (imageIn image .arrays) at vs cs (log used slice) (readExpression (l - 1) image (at + 1))) where
+  abbrev Gives : Ran → List ℕ → List ℕ → List ℕ → Type 0
+  Gives x vs1 cs1 slice2 = finished x vs1 cs1 slice2
+      ≡ statementAt budget (imageIn image) me at z (log used slice) vs cs (readStatement l (paramsIn table) me image at)
 
-  module _ (budget : ℕ) (vs cs slice : List ℕ) (used z : ℕ) (r : Value) (slice1 : List ℕ)
-      (d : evaluation r slice1 ≡ branchAt (imageIn image .arrays) at vs cs (log used slice) (readExpression (l - 1) image (at + 1))) where
-    -- the condition and its entry
-    condition : Expression → Evaluated Log ℕ
-    condition c = bind (valueOf byteTrace (imageIn image .arrays) c vs cs (log used slice)) (λ v u. emit byteTrace 1 at (truth v) u)
+  -- the condition and its entry
+  abbrev condition : Expression → Evaluated Log ℕ
+  condition c = bind (valueOf byteTrace (imageIn image .arrays) c vs cs (log used slice)) (λ v u. emit byteTrace 1 at (truth v) u)
 
-    if-run : (c : Expression) (x y : Block)
-        → runStatement byteTrace budget (imageIn image .arrays) (callees budget (imageIn image) me) at (conditional c x y) z (log used slice) vs cs
-        ≡ within z (condition c)
-        (λ b t. taken b (λ p w us ds. runBlock byteTrace budget (imageIn image .arrays) (callees budget (imageIn image) me) x p w us ds)
-        (λ p w us ds. runBlock byteTrace budget (imageIn image .arrays) (callees budget (imageIn image) me) y p w us ds) z t vs cs)
-    unfolding runStatement runBlock condition
-    if-run c x y =
-        within-two z (valueOf byteTrace (imageIn image .arrays) c vs cs (log used slice)) (λ v u. emit byteTrace 1 at (truth v) u)
-        (λ b t. taken b (λ p w us ds. runBlock byteTrace budget (imageIn image .arrays) (callees budget (imageIn image) me) x p w us ds)
-        (λ p w us ds. runBlock byteTrace budget (imageIn image .arrays) (callees budget (imageIn image) me) y p w us ds) z t vs cs)
+  if-run : (c : Expression) (x y : Block)
+      → runStatement byteTrace budget (imageIn image .arrays) (callees budget (imageIn image) me) at (conditional c x y) z (log used slice) vs cs
+      ≡ within z (condition c)
+      (λ b t. taken b (λ p w us ds. runBlock byteTrace budget (imageIn image .arrays) (callees budget (imageIn image) me) x p w us ds)
+      (λ p w us ds. runBlock byteTrace budget (imageIn image .arrays) (callees budget (imageIn image) me) y p w us ds) z t vs cs)
+  unfolding runStatement runBlock
+  if-run c x y =
+      within-two z (valueOf byteTrace (imageIn image .arrays) c vs cs (log used slice)) (λ v u. emit byteTrace 1 at (truth v) u)
+      (λ b t. taken b (λ p w us ds. runBlock byteTrace budget (imageIn image .arrays) (callees budget (imageIn image) me) x p w us ds)
+      (λ p w us ds. runBlock byteTrace budget (imageIn image .arrays) (callees budget (imageIn image) me) y p w us ds) z t vs cs)
 
-    at-condition : (c : Expression) (n : ℕ) → readExpression (l - 1) image (at + 1) ≡ got c n → evaluation r slice1 ≡ until n (condition c)
-    unfolding branchAt condition
-    at-condition c n w = rw w at d
+  at-condition : (c : Expression) (n : ℕ) → readExpression (l - 1) image (at + 1) ≡ got c n → evaluation r slice1 ≡ until n (condition c)
+  unfolding branchAt
+  at-condition c n w = rw w at d
 
-    condition-stop : (c : Expression) (n : ℕ) → readExpression (l - 1) image (at + 1) ≡ got c n → (j q u : ℕ) → r ≡ Stop j q u → condition c ≡ stop j q (log u slice1)
-    condition-stop c n w j q u s = until-stop r slice1 n (condition c) j q u (at-condition c n w) s
+  pub if-stopped : (x : Ran) (j q u : ℕ) → x ≡ stoppedAt r z → r ≡ Stop j q u → Gives x vs cs slice1
+  unfolding finished statementAt ending stoppedAt
+  if-stopped x j q u f s =
+      let (c, n, a, m, b, o, w, w1, w2, p) = open-if l (paramsIn table) me image at (g .read) h in
+      rw (f, s, p, if-run c a b, until-stop r slice1 n (condition c) j q u (at-condition c n w) s)
 
-    condition-got : (c : Expression) (n : ℕ) → readExpression (l - 1) image (at + 1) ≡ got c n → (b m u : ℕ) → r ≡ Got b m u
-        → (condition c ≡ value b (log u slice1)) × (n ≡ m)
-    condition-got c n w b m u s = until-got r slice1 n (condition c) b m u (at-condition c n w) s
+  module _ (b n u : ℕ) (s : r ≡ Got b n u) where
+    -- both arms, where the code knows them
+    arms : (c : Expression) × (x : Block) × (m : ℕ) × (y : Block) × (o : ℕ) × (condition c ≡ value b (log u slice1))
+        × (readBlock (l - 1) (paramsIn table) me image n ≡ got x m) × (readBlock (l - 1) (paramsIn table) me image m ≡ got y o)
+        × (readStatement l (paramsIn table) me image at ≡ got (conditional c x y) o)
+    arms =
+        let (c, n1, x, m, y, o, w, w1, w2, p) = open-if l (paramsIn table) me image at (g .read) h in
+        let (f, e) = until-got r slice1 n1 (condition c) b n u (at-condition c n1 w) s in
+        (c, x, m, y, o, f, ap (λ (q : ℕ). readBlock (l - 1) (paramsIn table) me image q) (sym e) ∙ w1, w2, p)
 
-    pub if-stopped : (vs1 cs1 : List ℕ) (j q u : ℕ) → r ≡ Stop j q u
-        → finished (Halt j q u z) vs1 cs1 slice1 ≡ statementAt budget (imageIn image) me at z (log used slice) vs cs (readStatement l (paramsIn tables) me image at)
-    unfolding finished statementAt ending
-    if-stopped vs1 cs1 j q u s = let (c, n, x, m, y, o, w, w1, w2, p) = open-if l (paramsIn tables) me image at (g .read) h in go c n x y o w p
-      where
-        go : (c : Expression) (n : ℕ) (x y : Block) (o : ℕ) → readExpression (l - 1) image (at + 1) ≡ got c n
-            → readStatement l (paramsIn tables) me image at ≡ got (conditional c x y) o
-            → finished (Halt j q u z) vs1 cs1 slice1 ≡ statementAt budget (imageIn image) me at z (log used slice) vs cs (readStatement l (paramsIn tables) me image at)
-        go c n x y o w p = rw (p, if-run c x y, condition-stop c n w j q u s)
+    condition-end : n ≡ endOf (readExpression (l - 1) image (at + 1))
+    condition-end =
+        let (c, n1, x, m, y, o, w, w1, w2, p) = open-if l (paramsIn table) me image at (g .read) h in
+        let (f, e) = until-got r slice1 n1 (condition c) b n u (at-condition c n1 w) s in
+        sym e ∙ sym (end-of _ c n1 w)
 
-    module _ (b n u : ℕ) (s : r ≡ Got b n u) where
-      -- both arms, where the code knows them
-      arms : (c : Expression) × (x : Block) × (m : ℕ) × (y : Block) × (o : ℕ) × (condition c ≡ value b (log u slice1))
-          × (readBlock (l - 1) (paramsIn tables) me image n ≡ got x m) × (readBlock (l - 1) (paramsIn tables) me image m ≡ got y o)
-          × (readStatement l (paramsIn tables) me image at ≡ got (conditional c x y) o)
-      arms = let (c, n1, x, m, y, o, w, w1, w2, p) = open-if l (paramsIn tables) me image at (g .read) h in go c n1 x m y o w w1 w2 p
-        where
-          go : (c : Expression) (n1 : ℕ) (x : Block) (m : ℕ) (y : Block) (o : ℕ) → readExpression (l - 1) image (at + 1) ≡ got c n1
-              → readBlock (l - 1) (paramsIn tables) me image n1 ≡ got x m → readBlock (l - 1) (paramsIn tables) me image m ≡ got y o
-              → readStatement l (paramsIn tables) me image at ≡ got (conditional c x y) o
-              → (c : Expression) × (x : Block) × (m : ℕ) × (y : Block) × (o : ℕ) × (condition c ≡ value b (log u slice1))
-              × (readBlock (l - 1) (paramsIn tables) me image n ≡ got x m) × (readBlock (l - 1) (paramsIn tables) me image m ≡ got y o)
-              × (readStatement l (paramsIn tables) me image at ≡ got (conditional c x y) o)
-          go c n1 x m y o w w1 w2 p =
-              let (f, e) = condition-got c n1 w b n u s in
-              (c, x, m, y, o, f, ap (λ (q : ℕ). readBlock (l - 1) (paramsIn tables) me image q) (sym e) ∙ w1, w2, p)
+    pub then-read : BlockRead (l - 1) (paramsIn table) me image n
+    then-read = read-then l (paramsIn table) me image at (g .read) _ refl h n condition-end
 
-      pub then-fine : (BlockRead (l - 1) image tables me n) × (Known image tables ends me)
-      then-fine = let (c, x, m, y, o, f, w1, w2, p) = arms in (block-read (l - 1) image tables me n x m w1, k)
+    module _ (start : ℕ) (e : start ≡ endOf (readBlock (l - 1) (paramsIn table) me image n)) where
+      pub else-read : BlockRead (l - 1) (paramsIn table) me image start
+      else-read = read-else l (paramsIn table) me image at (g .read) _ refl h n condition-end start e
 
-      pub then-asks : (80 ≤ length tables) × (BlockEnds image (paramsIn tables) ends) × (ok (readBlock (l - 1) (paramsIn tables) me image n) ≡ true)
-      then-asks = let (c, x, m, y, o, f, w1, w2, p) = arms in end-asks (l - 1) image tables me ends k n x m w1
+      pub else-done : b ≡ 0 → (r2 : Ran) (vs2 cs2 slice2 : List ℕ)
+          → finished r2 vs2 cs2 slice2 ≡ blockAt budget (imageIn image) me z (log u slice1) vs cs (readBlock (l - 1) (paramsIn table) me image start)
+          → Gives r2 vs2 cs2 slice2
+      unfolding statementAt blockAt taken
+      else-done zero r2 vs2 cs2 slice2 d2 =
+          let (c, x, m, y, o, f, w1, w2, p) = arms in
+          let a : start ≡ m = e ∙ end-of _ x m w1 in
+          let w3 : readBlock (l - 1) (paramsIn table) me image start ≡ got y o = ap (λ (q : ℕ). readBlock (l - 1) (paramsIn table) me image q) a ∙ w2 in
+          rw (p, if-run c x y, f, eq-eqb b 0 zero) (rw w3 at d2)
 
-      module _ (start : ℕ) (e : start ≡ endOf (readBlock (l - 1) (paramsIn tables) me image n)) where
-        pub else-fine : (BlockRead (l - 1) image tables me start) × (Known image tables ends me)
-        else-fine = let (c, x, m, y, o, f, w1, w2, p) = arms in go x m y o w1 w2
-          where
-            go : (x : Block) (m : ℕ) (y : Block) (o : ℕ) → readBlock (l - 1) (paramsIn tables) me image n ≡ got x m
-                → readBlock (l - 1) (paramsIn tables) me image m ≡ got y o → (BlockRead (l - 1) image tables me start) × (Known image tables ends me)
-            go x m y o w1 w2 =
-                let a : start ≡ m = end-is (l - 1) image tables me n start x m w1 e in
-                (block-read (l - 1) image tables me start y o (ap (λ (q : ℕ). readBlock (l - 1) (paramsIn tables) me image q) a ∙ w2), k)
+    module _ (other : b ≡ 0 → ⊥) (r2 : Ran) (vs2 cs2 slice2 : List ℕ)
+        (d2 : finished r2 vs2 cs2 slice2 ≡ blockAt budget (imageIn image) me z (log u slice1) vs cs (readBlock (l - 1) (paramsIn table) me image n)) where
+      pub then-ended : Ended r2 → Gives r2 vs2 cs2 slice2
+      unfolding statementAt taken
+      then-ended q =
+          let (c, x, m, y, o, f, w1, w2, p) = arms in
+          rw (p, if-run c x y, f, ne-eqb b 0 other)
+          (ended-same r2 q vs2 cs2 slice2 m _ (at-block budget (imageIn image) me z (log u slice1) vs cs _ x m w1 r2 vs2 cs2 slice2 d2) o)
 
-        pub else-done : b ≡ 0 → (r2 : Ran) (vs2 cs2 slice2 : List ℕ)
-            → finished r2 vs2 cs2 slice2 ≡ blockAt budget (imageIn image) me z (log u slice1) vs cs (readBlock (l - 1) (paramsIn tables) me image start)
-            → finished r2 vs2 cs2 slice2 ≡ statementAt budget (imageIn image) me at z (log used slice) vs cs (readStatement l (paramsIn tables) me image at)
-        unfolding statementAt blockAt taken
-        else-done zero r2 vs2 cs2 slice2 d2 = let (c, x, m, y, o, f, w1, w2, p) = arms in go c x m y o f w1 w2 p
-          where
-            go : (c : Expression) (x : Block) (m : ℕ) (y : Block) (o : ℕ) → condition c ≡ value b (log u slice1)
-                → readBlock (l - 1) (paramsIn tables) me image n ≡ got x m → readBlock (l - 1) (paramsIn tables) me image m ≡ got y o
-                → readStatement l (paramsIn tables) me image at ≡ got (conditional c x y) o
-                → finished r2 vs2 cs2 slice2 ≡ statementAt budget (imageIn image) me at z (log used slice) vs cs (readStatement l (paramsIn tables) me image at)
-            go c x m y o f w1 w2 p =
-                let a : start ≡ m = end-is (l - 1) image tables me n start x m w1 e in
-                let w3 : readBlock (l - 1) (paramsIn tables) me image start ≡ got y o = ap (λ (q : ℕ). readBlock (l - 1) (paramsIn tables) me image q) a ∙ w2 in
-                rw (p, if-run c x y, f, eq-eqb b 0 zero) (rw w3 at d2)
+      module _ (a u2 z2 : ℕ) (s2 : r2 ≡ On a u2 z2) where
+        pub else-passed : BlockRead (l - 1) (paramsIn table) me image a
+        else-passed =
+            else-read a (block-end budget (imageIn image) me z (log u slice1) vs cs _ (then-read .read) r2 vs2 cs2 slice2 d2 a u2 z2 s2)
 
-      module _ (other : b ≡ 0 → ⊥) (r2 : Ran) (vs2 cs2 slice2 : List ℕ)
-          (d2 : finished r2 vs2 cs2 slice2 ≡ blockAt budget (imageIn image) me z (log u slice1) vs cs (readBlock (l - 1) (paramsIn tables) me image n)) where
-        pub then-stopped : (j q u2 z2 : ℕ) → r2 ≡ Halt j q u2 z2
-            → finished (Halt j q u2 z2) vs2 cs2 slice2 ≡ statementAt budget (imageIn image) me at z (log used slice) vs cs (readStatement l (paramsIn tables) me image at)
-        unfolding statementAt ending finished taken
-        then-stopped j q u2 z2 s2 = let (c, x, m, y, o, f, w1, w2, p) = arms in go c x m y o f w1 p
-          where
-            go : (c : Expression) (x : Block) (m : ℕ) (y : Block) (o : ℕ) → condition c ≡ value b (log u slice1)
-                → readBlock (l - 1) (paramsIn tables) me image n ≡ got x m → readStatement l (paramsIn tables) me image at ≡ got (conditional c x y) o
-                → finished (Halt j q u2 z2) vs2 cs2 slice2 ≡ statementAt budget (imageIn image) me at z (log used slice) vs cs (readStatement l (paramsIn tables) me image at)
-            go c x m y o f w1 p =
-                rw (p, if-run c x y, f, ne-eqb b 0 other, block-halt budget (imageIn image) me z (log u slice1) vs cs _ x m w1 r2 vs2 cs2 slice2 d2 j q u2 z2 s2)
-
-        pub then-back : (v u2 z2 : ℕ) → r2 ≡ Back v u2 z2
-            → finished (Back v u2 z2) vs2 cs2 slice2 ≡ statementAt budget (imageIn image) me at z (log used slice) vs cs (readStatement l (paramsIn tables) me image at)
+        pub then-done : (end : ℕ) → end ≡ endOf (readBlock (l - 1) (paramsIn table) me image a) → Gives (On end u2 z2) vs2 cs2 slice2
         unfolding statementAt ending placed finished taken
-        then-back v u2 z2 s2 = let (c, x, m, y, o, f, w1, w2, p) = arms in go c x m y o f w1 p
-          where
-            go : (c : Expression) (x : Block) (m : ℕ) (y : Block) (o : ℕ) → condition c ≡ value b (log u slice1)
-                → readBlock (l - 1) (paramsIn tables) me image n ≡ got x m → readStatement l (paramsIn tables) me image at ≡ got (conditional c x y) o
-                → finished (Back v u2 z2) vs2 cs2 slice2 ≡ statementAt budget (imageIn image) me at z (log used slice) vs cs (readStatement l (paramsIn tables) me image at)
-            go c x m y o f w1 p =
-                rw (p, if-run c x y, f, ne-eqb b 0 other, block-returned budget (imageIn image) me z (log u slice1) vs cs _ x m w1 r2 vs2 cs2 slice2 d2 v u2 z2 s2)
-
-        module _ (a u2 z2 : ℕ) (s2 : r2 ≡ On a u2 z2) where
-          pub else-asks : (80 ≤ length tables) × (BlockEnds image (paramsIn tables) ends) × (ok (readBlock (l - 1) (paramsIn tables) me image a) ≡ true)
-          else-asks = let (c, x, m, y, o, f, w1, w2, p) = arms in go x m y o w1 w2
-            where
-              go : (x : Block) (m : ℕ) (y : Block) (o : ℕ) → readBlock (l - 1) (paramsIn tables) me image n ≡ got x m
-                  → readBlock (l - 1) (paramsIn tables) me image m ≡ got y o
-                  → (80 ≤ length tables) × (BlockEnds image (paramsIn tables) ends) × (ok (readBlock (l - 1) (paramsIn tables) me image a) ≡ true)
-              go x m y o w1 w2 =
-                  let (i, e) = block-on budget (imageIn image) me z (log u slice1) vs cs _ x m w1 r2 vs2 cs2 slice2 d2 a u2 z2 s2 in
-                  end-asks (l - 1) image tables me ends k a y o (ap (λ (q : ℕ). readBlock (l - 1) (paramsIn tables) me image q) (sym e) ∙ w2)
-
-          pub then-done : (after : ℕ) → after ≡ endOf (readBlock (l - 1) (paramsIn tables) me image a)
-              → finished (On after u2 z2) vs2 cs2 slice2 ≡ statementAt budget (imageIn image) me at z (log used slice) vs cs (readStatement l (paramsIn tables) me image at)
-          unfolding statementAt ending placed finished taken
-          then-done after e = let (c, x, m, y, o, f, w1, w2, p) = arms in go c x m y o f w1 w2 p
-            where
-              go : (c : Expression) (x : Block) (m : ℕ) (y : Block) (o : ℕ) → condition c ≡ value b (log u slice1)
-                  → readBlock (l - 1) (paramsIn tables) me image n ≡ got x m → readBlock (l - 1) (paramsIn tables) me image m ≡ got y o
-                  → readStatement l (paramsIn tables) me image at ≡ got (conditional c x y) o
-                  → finished (On after u2 z2) vs2 cs2 slice2 ≡ statementAt budget (imageIn image) me at z (log used slice) vs cs (readStatement l (paramsIn tables) me image at)
-              go c x m y o f w1 w2 p =
-                  let (i, e2) = block-on budget (imageIn image) me z (log u slice1) vs cs _ x m w1 r2 vs2 cs2 slice2 d2 a u2 z2 s2 in
-                  let w3 : readBlock (l - 1) (paramsIn tables) me image a ≡ got y o = ap (λ (q : ℕ). readBlock (l - 1) (paramsIn tables) me image q) (sym e2) ∙ w2 in
-                  let e3 : after ≡ o = end-is (l - 1) image tables me a after y o w3 e in
-                  rw (p, if-run c x y, f, ne-eqb b 0 other, i, e3)
+        then-done end e =
+            let (c, x, m, y, o, f, w1, w2, p) = arms in
+            let (i, e2) = block-on budget (imageIn image) me z (log u slice1) vs cs _ x m w1 r2 vs2 cs2 slice2 d2 a u2 z2 s2 in
+            let w3 : readBlock (l - 1) (paramsIn table) me image a ≡ got y o = ap (λ (q : ℕ). readBlock (l - 1) (paramsIn table) me image q) (sym e2) ∙ w2 in
+            let e3 : end ≡ o = e ∙ end-of _ y o w3 in
+            rw (p, if-run c x y, f, ne-eqb b 0 other, i, e3)
 
 -- ---- for
 
@@ -221,7 +152,7 @@ bounds-got : (x : Evaluated Log Range) (r : Bounds) (slice : List ℕ) (v w m u 
 unfolding bounded
 bounds-got x r slice v w m u d s = sym d ∙ rw s
 
-bounds-stop : (x : Evaluated Log Range) (r : Bounds) (slice : List ℕ) (j q u : ℕ) → bounded r slice ≡ x → r ≡ NoBounds j q u → x ≡ stop j q (log u slice)
+bounds-stop : (x : Evaluated Log Range) (r : Bounds) (slice : List ℕ) (j q u : ℕ) → bounded r slice ≡ x → r ≡ None j q u → x ≡ stop j q (log u slice)
 unfolding bounded
 bounds-stop x r slice j q u d s = sym d ∙ rw s
 
@@ -250,85 +181,61 @@ range-place arrays l e f n vs cs t v w m s = one (valueOf byteTrace arrays e vs 
     one (value i u) d = two (valueOf byteTrace arrays f vs cs u) i d
     one (stop a b q) d = cc
 
-module _ (l : ℕ) (image tables ends : List ℕ) (me at : ℕ) (g : StatementRead l image tables me at) (k : Known image tables ends me) (h : opOf (getD image at 0) ≡ 3) where
-  pub for-fine : (PairRead (l - 1) image tables (at + 1)) × (at < 268435456)
-  for-fine = let (f, n, t, m, b, o, w, v, u, q) = open-for l (paramsIn tables) me image at (g .read) h in (go f n t m w v, statement-place l image tables me at g)
-    where
-      go : (f : Expression) (n : ℕ) (t : Expression) (m : ℕ) → readExpression (l - 1) image (at + 1) ≡ got f n → readExpression (l - 1) image n ≡ got t m
-          → PairRead (l - 1) image tables (at + 1)
-      go f n t m w v =
-          record {
-            first = part-readable l image tables me at g (at + 1) f n w;
-            second = ok-of _ t m (ap (λ (q : ℕ). readExpression (l - 1) image q) (end-of (readExpression (l - 1) image (at + 1)) f n w) ∙ v);
-          }
+module _ (l : ℕ) (image table : List ℕ) (me at : ℕ) (g : StatementRead l (paramsIn table) me image at) (h : opOf (getD image at 0) ≡ 3)
+    (budget : ℕ) (vs cs slice : List ℕ) (used z : ℕ) (r : Bounds) (slice1 : List ℕ)
+    (d : bounded r slice1 ≡ boundsAt (imageIn image .arrays) at vs cs (log used slice) (readExpression (l - 1) image (at + 1))
+    (readExpression (l - 1) image (endOf (readExpression (l - 1) image (at + 1))))) where
+  abbrev Loops : Ran → List ℕ → List ℕ → List ℕ → Type 0
+  Loops x vs1 cs1 slice2 = finished x vs1 cs1 slice2
+      ≡ statementAt budget (imageIn image) me at z (log used slice) vs cs (readStatement l (paramsIn table) me image at)
 
-  module _ (budget : ℕ) (vs cs slice : List ℕ) (used z : ℕ) (r : Bounds) (slice1 : List ℕ)
-      (d : bounded r slice1 ≡ boundsAt (imageIn image .arrays) at vs cs (log used slice) (readExpression (l - 1) image (at + 1)) (readExpression (l - 1) image (endOf (readExpression (l - 1) image (at + 1))))) where
-    -- the passes after the bounds
-    over : Block → ℕ → ℕ → Log → Run Log Outcome
-    over b v w t =
-        passes budget at (targetOf (getD image at 0)) (λ n p us ds. runBlock byteTrace budget (imageIn image .arrays) (callees budget (imageIn image) me) b n p us ds) (w - v) v z t vs cs
+  -- the passes after the bounds
+  abbrev over : Block → ℕ → ℕ → Log → Run Log Outcome
+  over b v w t =
+      passes budget at (targetOf (getD image at 0)) (λ n p us ds. runBlock byteTrace budget (imageIn image .arrays) (callees budget (imageIn image) me) b n p us ds)
+      (w - v) v z t vs cs
 
-    for-run : (f t : Expression) (b : Block) (m : ℕ)
-        → runStatement byteTrace budget (imageIn image .arrays) (callees budget (imageIn image) me) at (loop (targetOf (getD image at 0)) f t b) z (log used slice) vs cs
-        ≡ within z (bounds (imageIn image .arrays) at f t m vs cs (log used slice)) (ranged (over b))
-    unfolding runStatement runBlock bounds rangeNoted over
-    for-run f t b m =
-        first z m (over b) (valueOf byteTrace (imageIn image .arrays) f vs cs (log used slice)) (λ u. valueOf byteTrace (imageIn image .arrays) t vs cs u)
-        (λ v q. emit byteTrace 2 at v q) (λ w q. emit byteTrace 3 at w q)
+  for-run : (f t : Expression) (b : Block) (m : ℕ)
+      → runStatement byteTrace budget (imageIn image .arrays) (callees budget (imageIn image) me) at (loop (targetOf (getD image at 0)) f t b) z (log used slice) vs cs
+      ≡ within z (bounds (imageIn image .arrays) at f t m vs cs (log used slice)) (ranged (over b))
+  unfolding runStatement runBlock bounds rangeNoted
+  for-run f t b m =
+      first z m (over b) (valueOf byteTrace (imageIn image .arrays) f vs cs (log used slice)) (λ u. valueOf byteTrace (imageIn image .arrays) t vs cs u)
+      (λ v q. emit byteTrace 2 at v q) (λ w q. emit byteTrace 3 at w q)
 
-    at-bounds : (f : Expression) (n : ℕ) (t : Expression) (m : ℕ) → readExpression (l - 1) image (at + 1) ≡ got f n → readExpression (l - 1) image n ≡ got t m
-        → bounded r slice1 ≡ bounds (imageIn image .arrays) at f t m vs cs (log used slice)
-    unfolding boundsAt endOf
-    at-bounds f n t m w v = rw (w, v) at d
+  at-bounds : (f : Expression) (n : ℕ) (t : Expression) (m : ℕ) → readExpression (l - 1) image (at + 1) ≡ got f n → readExpression (l - 1) image n ≡ got t m
+      → bounded r slice1 ≡ bounds (imageIn image .arrays) at f t m vs cs (log used slice)
+  unfolding boundsAt endOf
+  at-bounds f n t m w v = rw (w, v) at d
 
-    pub for-stopped : (vs1 cs1 : List ℕ) (j q u : ℕ) → r ≡ NoBounds j q u
-        → finished (Halt j q u z) vs1 cs1 slice1 ≡ statementAt budget (imageIn image) me at z (log used slice) vs cs (readStatement l (paramsIn tables) me image at)
-    unfolding finished statementAt ending
-    for-stopped vs1 cs1 j q u s = let (f, n, t, m, b, o, w, v, w2, p) = open-for l (paramsIn tables) me image at (g .read) h in go f n t m b o w v p
-      where
-        go : (f : Expression) (n : ℕ) (t : Expression) (m : ℕ) (b : Block) (o : ℕ) → readExpression (l - 1) image (at + 1) ≡ got f n → readExpression (l - 1) image n ≡ got t m
-            → readStatement l (paramsIn tables) me image at ≡ got (loop (targetOf (getD image at 0)) f t b) o
-            → finished (Halt j q u z) vs1 cs1 slice1 ≡ statementAt budget (imageIn image) me at z (log used slice) vs cs (readStatement l (paramsIn tables) me image at)
-        go f n t m b o w v p =
-            rw (p, for-run f t b m, bounds-stop (bounds (imageIn image .arrays) at f t m vs cs (log used slice)) r slice1 j q u (at-bounds f n t m w v) s)
+  pub for-stopped : (j q u : ℕ) → r ≡ None j q u → Loops (Halt j q u z) vs cs slice1
+  unfolding finished statementAt ending
+  for-stopped j q u s =
+      let (f, n, t, m, b, o, w, v, w2, p) = open-for l (paramsIn table) me image at (g .read) h in
+      rw (p, for-run f t b m, bounds-stop (bounds (imageIn image .arrays) at f t m vs cs (log used slice)) r slice1 j q u (at-bounds f n t m w v) s)
 
-    module _ (from to body u : ℕ) (s : r ≡ Both from to body u) where
-      -- the bounds and the block, where the code knows them
-      parts : (f : Expression) × (t : Expression) × (m : ℕ) × (b : Block) × (o : ℕ)
-          × (bounds (imageIn image .arrays) at f t m vs cs (log used slice) ≡ value (range from to body) (log u slice1))
-          × (readBlock (l - 1) (paramsIn tables) me image body ≡ got b o)
-          × (readStatement l (paramsIn tables) me image at ≡ got (loop (targetOf (getD image at 0)) f t b) o)
-      parts = let (f, n, t, m, b, o, w, v, w2, p) = open-for l (paramsIn tables) me image at (g .read) h in go f n t m b o w v w2 p
-        where
-          go : (f : Expression) (n : ℕ) (t : Expression) (m : ℕ) (b : Block) (o : ℕ) → readExpression (l - 1) image (at + 1) ≡ got f n → readExpression (l - 1) image n ≡ got t m
-              → readBlock (l - 1) (paramsIn tables) me image m ≡ got b o → readStatement l (paramsIn tables) me image at ≡ got (loop (targetOf (getD image at 0)) f t b) o
-              → (f : Expression) × (t : Expression) × (m : ℕ) × (b : Block) × (o : ℕ)
-              × (bounds (imageIn image .arrays) at f t m vs cs (log used slice) ≡ value (range from to body) (log u slice1))
-              × (readBlock (l - 1) (paramsIn tables) me image body ≡ got b o)
-              × (readStatement l (paramsIn tables) me image at ≡ got (loop (targetOf (getD image at 0)) f t b) o)
-          go f n t m b o w v w2 p =
-              let q = bounds-got (bounds (imageIn image .arrays) at f t m vs cs (log used slice)) r slice1 from to body u (at-bounds f n t m w v) s in
-              let e = range-place (imageIn image .arrays) at f t m vs cs (log used slice) from to body (log u slice1) q in
-              (f, t, m, b, o, q, ap (λ (a : ℕ). readBlock (l - 1) (paramsIn tables) me image a) (sym e) ∙ w2, p)
+  module _ (from to body u : ℕ) (s : r ≡ Both from to body u) where
+    -- the bounds and the block, where the code knows them
+    parts : (f : Expression) × (t : Expression) × (m : ℕ) × (b : Block) × (o : ℕ)
+        × (bounds (imageIn image .arrays) at f t m vs cs (log used slice) ≡ value (range from to body) (log u slice1))
+        × (readBlock (l - 1) (paramsIn table) me image body ≡ got b o)
+        × (readStatement l (paramsIn table) me image at ≡ got (loop (targetOf (getD image at 0)) f t b) o)
+    parts =
+        let (f, n, t, m, b, o, w, v, w2, p) = open-for l (paramsIn table) me image at (g .read) h in
+        let q = bounds-got (bounds (imageIn image .arrays) at f t m vs cs (log used slice)) r slice1 from to body u (at-bounds f n t m w v) s in
+        let e = range-place (imageIn image .arrays) at f t m vs cs (log used slice) from to body (log u slice1) q in
+        (f, t, m, b, o, q, ap (λ (a : ℕ). readBlock (l - 1) (paramsIn table) me image a) (sym e) ∙ w2, p)
 
-      pub body-fine : (BlockRead (l - 1) image tables me body) × (Known image tables ends me)
-      body-fine = let (f, t, m, b, o, q, w, p) = parts in (block-read (l - 1) image tables me body b o w, k)
+    pub body-read : BlockRead (l - 1) (paramsIn table) me image body
+    body-read = let (f, t, m, b, o, q, w, p) = parts in block-got (l - 1) (paramsIn table) me image body b o w
 
-      pub body-asks : (80 ≤ length tables) × (BlockEnds image (paramsIn tables) ends) × (ok (readBlock (l - 1) (paramsIn tables) me image body) ≡ true)
-      body-asks = let (f, t, m, b, o, q, w, p) = parts in end-asks (l - 1) image tables me ends k body b o w
-
-      pub for-done : (after : ℕ) → after ≡ endOf (readBlock (l - 1) (paramsIn tables) me image body) → (r2 : Ran) (vs2 cs2 slice2 : List ℕ)
-          → finished r2 vs2 cs2 slice2
-          ≡ passesAt budget (imageIn image) me at (targetOf (getD image at 0)) (to - from) from after z (log u slice1) vs cs (readBlock (l - 1) (paramsIn tables) me image body)
-          → finished r2 vs2 cs2 slice2 ≡ statementAt budget (imageIn image) me at z (log used slice) vs cs (readStatement l (paramsIn tables) me image at)
-      unfolding statementAt passesAt ranged over
-      for-done after e r2 vs2 cs2 slice2 d2 = let (f, t, m, b, o, q, w, p) = parts in go f t m b o q w p
-        where
-          go : (f t : Expression) (m : ℕ) (b : Block) (o : ℕ) → bounds (imageIn image .arrays) at f t m vs cs (log used slice) ≡ value (range from to body) (log u slice1)
-              → readBlock (l - 1) (paramsIn tables) me image body ≡ got b o
-              → readStatement l (paramsIn tables) me image at ≡ got (loop (targetOf (getD image at 0)) f t b) o
-              → finished r2 vs2 cs2 slice2 ≡ statementAt budget (imageIn image) me at z (log used slice) vs cs (readStatement l (paramsIn tables) me image at)
-          go f t m b o q w p =
-              let a : after ≡ o = end-is (l - 1) image tables me body after b o w e in
-              rw (p, for-run f t b m, q, ← a) (rw w at d2)
+    pub for-done : (end x : ℕ) → end ≡ endOf (readBlock (l - 1) (paramsIn table) me image body) → x ≡ targetOf (getD image at 0)
+        → (r2 : Ran) (vs2 cs2 slice2 : List ℕ)
+        → finished r2 vs2 cs2 slice2
+        ≡ passesAt budget (imageIn image) me at x (to - from) from end z (log u slice1) vs cs (readBlock (l - 1) (paramsIn table) me image body)
+        → Loops r2 vs2 cs2 slice2
+    unfolding statementAt passesAt ranged
+    for-done end x e hx r2 vs2 cs2 slice2 d2 =
+        let (f, t, m, b, o, q, w, p) = parts in
+        let a : end ≡ o = e ∙ end-of _ b o w in
+        rw (p, for-run f t b m, q, ← a, ← hx) (rw w at d2)

@@ -4,3 +4,4 @@ pub mod StatementRules
 pub mod BlockRules
 pub mod BranchRules
 pub mod CallRules
+pub mod RunRules

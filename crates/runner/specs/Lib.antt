@@ -1,4 +1,4 @@
 pub mod Runs
-pub mod Known
 pub mod Results
 pub mod Callees
+pub mod Executions

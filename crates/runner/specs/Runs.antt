@@ -1,13 +1,18 @@
 -- How the answer of the code's run over words is read as the definition's result, and the definition's result on the tree that was read.
 -- Assumes nothing.
-use mathlib.Core.List.{List}
+use mathlib.Core.List.{List, [], _∷_, _++_}
 use Prim.Native.Nat.{ℕ}
+use lib.ListN.{getD, replicate}
 use lib.Seq.{sets}
 use Rattle.definitions.specs.Arithmetic.{truth}
-use Rattle.definitions.specs.Image.{Expression, Statement, Block, Image}
+use Rattle.definitions.specs.Image.{Expression, Statement, Block, Image, procedureAt}
 use Rattle.definitions.specs.Reading.{Parse, got, refused}
-use Rattle.definitions.specs.Running.{Evaluated, value, stop, bind, emit, on, halt, andGo, Outcome, next, back, Callee}
+use Rattle.definitions.specs.Running.{Evaluated, value, stop, bind, emit, on, halt, andGo, Outcome, next, back, Given, gave}
+use Rattle.definitions.specs.Running.{Callee, finish}
 use Rattle.definitions.specs.Running.{evaluate, evaluateAll, passes, runStatement, runBlock, runProcedure, Ran as Run}
+use Rattle.tables.specs.Table.{paramsIn}
+use Rattle.tables.specs.Looking.{Listed}
+use Rattle.reader.specs.Ends.{BlockEnds}
 use Rattle.tracing.specs.Log.{Log, log, byteTrace}
 use Rattle.tracing.specs.Answers.{until}
 use Rattle.tracing.specs.declared.Value.{Value}
@@ -16,7 +21,14 @@ use Rattle.evaluator.specs.Cells.{numbered}
 use Rattle.runner.specs.declared.Ran.{Ran}
 use Rattle.runner.specs.declared.Ran.the-variants.{On, Back, Stop as Halt}
 use Rattle.runner.specs.declared.Bounds.{Bounds}
-use Rattle.runner.specs.declared.Bounds.the-variants.{Both, Stop as NoBounds}
+use Rattle.runner.specs.declared.Bounds.the-variants.{Both, None}
+use Rattle.runner.specs.declared.Finished.{Finished}
+use Rattle.runner.specs.declared.Finished.the-variants.{Gave, Halt as Halted}
+
+-- what running the body of procedure `me` takes for granted: the tables fit the image
+pub record Ready (image table ends : List ℕ) (me : ℕ) : Type 0 where
+  pub listed : Listed image table me
+  pub blockEnds : BlockEnds image (paramsIn table) ends
 
 -- an outcome, with the place where the run goes on
 pub data Went : Type 0 where
@@ -30,6 +42,11 @@ unfoldable pub finished : Ran → List ℕ → List ℕ → List ℕ → Run Log
 finished (On at used steps) vars cells slice = on (went at vars cells) steps (log used slice)
 finished (Back v used steps) vars cells slice = on (gone v cells) steps (log used slice)
 finished (Halt number place used steps) vars cells slice = halt number place steps (log used slice)
+
+-- an evaluation that was stopped, in a run that has taken z steps
+unfoldable pub stoppedAt : Value → ℕ → Ran
+stoppedAt (Stop number place used) z = Halt number place used z
+stoppedAt (Got v n used) z = On n used z
 
 -- the place after what was run
 unfoldable pub placed : ℕ → Outcome → ℕ → Log → Run Log Went
@@ -61,6 +78,24 @@ passesAt budget program me l x n i after z t vs cs (got b m) =
     ending after (passes budget l x (λ y u us ds. runBlock byteTrace budget (program .arrays) (callees budget program me) b y u us ds) n i z t vs cs)
 passesAt budget program me l x n i after z t vs cs (refused k p) = halt k p z t
 
+-- what a procedure's answer says, with what the lent slices hold
+unfoldable pub returned : Finished → List ℕ → List ℕ → Run Log Given
+returned (Gave v used steps) cells slice = on (gave v cells) steps (log used slice)
+returned (Halted number place used steps) cells slice = halt number place steps (log used slice)
+
+-- what stands in an array of nine
+abbrev pub nine : List ℕ → List ℕ
+nine l = getD l 0 0 ∷ getD l 1 0 ∷ getD l 2 0 ∷ getD l 3 0 ∷ getD l 4 0 ∷ getD l 5 0 ∷ getD l 6 0 ∷ getD l 7 0 ∷ getD l 8 0 ∷ []
+
+-- a procedure's variables where it begins: its nine values, then zeros
+abbrev pub framed : List ℕ → List ℕ
+framed values = nine values ++ replicate 246 0
+
+-- the run of procedure f on its values
+abbrev pub procedureRun : ℕ → Image → ℕ → ℕ → Log → List ℕ → List ℕ → Run Log Given
+procedureRun budget program f z t values cs =
+    andGo (runBlock byteTrace budget (program .arrays) (callees budget program f) (procedureAt (program .procedures) f .body) z t (framed values) cs) finish
+
 -- ---- parts of statements
 
 -- an if's condition with its entry; the value is 0 or 1
@@ -70,8 +105,8 @@ branchAt arrays l vs cs t (refused k p) = stop k p t
 
 -- a store's index with its entry and test; the value is the number of its cell among all cells
 unfoldable pub slotAt : List ℕ → List ℕ → ℕ → ℕ → List ℕ → List ℕ → Log → Parse Expression → Evaluated Log (ℕ × ℕ)
-slotAt arrays tables a l vs cs t (got e n) = until n (bind (evaluate byteTrace arrays e vs cs t) (λ v u. numbered tables a l v u))
-slotAt arrays tables a l vs cs t (refused k p) = stop k p t
+slotAt arrays table a l vs cs t (got e n) = until n (bind (evaluate byteTrace arrays e vs cs t) (λ v u. numbered table a l v u))
+slotAt arrays table a l vs cs t (refused k p) = stop k p t
 
 -- a for's bounds
 pub data Range : Type 0 where
@@ -79,7 +114,11 @@ pub data Range : Type 0 where
 
 unfoldable pub bounded : Bounds → List ℕ → Evaluated Log Range
 bounded (Both from to at used) slice = value (range from to at) (log used slice)
-bounded (NoBounds number place used) slice = stop number place (log used slice)
+bounded (None number place used) slice = stop number place (log used slice)
+
+unfoldable pub noBounds : Value → Bounds
+noBounds (Stop number place used) = None number place used
+noBounds (Got v n used) = Both v v n used
 
 -- both bounds' entries
 unfoldable pub rangeNoted : ℕ → ℕ → ℕ → ℕ → Log → Evaluated Log Range
@@ -97,16 +136,16 @@ boundsAt arrays l vs cs t (got e n) (got f m) = bounds arrays l e f m vs cs t
 boundsAt arrays l vs cs t (got e n) (refused k p) = stop k p t
 boundsAt arrays l vs cs t (refused k p) y = stop k p t
 
--- a call's values in the frame, from its start on, and the place after them
-pub data Framed : Type 0 where
-  framed : List ℕ → ℕ → Framed
+-- a call's values, and the place after them
+pub data Values : Type 0 where
+  given : List ℕ → ℕ → Values
 
-unfoldable pub framing : Value → List ℕ → List ℕ → Evaluated Log Framed
-framing (Got v at used) frame slice = value (framed frame at) (log used slice)
-framing (Stop number place used) frame slice = stop number place (log used slice)
+unfoldable pub framing : Value → List ℕ → List ℕ → Evaluated Log Values
+framing (Got v at used) values slice = value (given values at) (log used slice)
+framing (Stop number place used) values slice = stop number place (log used slice)
 
--- values that go into the frame from index k on
-unfoldable pub argumentsAt : List ℕ → List ℕ → List ℕ → Log → List ℕ → ℕ → Parse (List Expression) → Evaluated Log Framed
-argumentsAt arrays vs cs t frame k (got es n) =
-    bind (evaluateAll byteTrace arrays es vs cs t) (λ ws u. value (framed (sets frame k ws) n) u)
-argumentsAt arrays vs cs t frame k (refused i p) = stop i p t
+-- values that are stored from index k on
+unfoldable pub valuesAt : List ℕ → List ℕ → List ℕ → Log → List ℕ → ℕ → Parse (List Expression) → Evaluated Log Values
+valuesAt arrays vs cs t values k (got es n) =
+    bind (evaluateAll byteTrace arrays es vs cs t) (λ ws u. value (given (sets values k ws) n) u)
+valuesAt arrays vs cs t values k (refused i p) = stop i p t

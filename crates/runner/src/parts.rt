@@ -1,81 +1,88 @@
-// What statements are made of: a store into a list, a condition, an index, the bounds of a for, the values of a call.
+// What statements are made of: a condition, an index, the bounds of a for, the values of a call.
+use super::Bounds;
+use super::PARAMETERS;
+use super::Ran;
+use evaluator::CELLS;
+use evaluator::VARIABLES;
+use evaluator::operand;
+use image_words::lists::put;
+use image_words::lists::wide;
+use tables::SIZE;
+use tracing::Value;
 ghost use mathlib.Core.Path.{_≡_};
-ghost use Prim.Native.Nat.{_+_, _<_, _≤_};
 ghost use mathlib.Core.Bool.{true};
-ghost use lib.ListN.{length, getD, set};
-ghost use Rattle.definitions.specs.Arithmetic as arithmetic;
-ghost use Rattle.definitions.specs.Image.{largestLevel, formOf};
-ghost use Rattle.definitions.specs.Reading.{readExpression, readBlock};
+ghost use Prim.Native.Nat.{_+_, _<_, _≤_};
+ghost use Rattle.definitions.specs.Reading.{readExpression};
 ghost use Rattle.laws.specs.Parses.{ok, endOf};
-ghost use Rattle.reader.specs.Answers.{readArgumentsAt};
-ghost use Rattle.reader.specs.Tables.{BlockEnds};
+ghost use Rattle.laws.specs.ImageIn.{imageIn};
+ghost use Rattle.image_words.specs.Read.{ExpressionRead, PairRead, argumentsAt};
+ghost use Rattle.tables.specs.Table.{Known};
 ghost use Rattle.tracing.specs.Log.{log};
 ghost use Rattle.tracing.specs.Answers.{evaluation};
-ghost use Rattle.laws.specs.ImageIn.{imageIn};
-ghost use Rattle.evaluator.specs.Evaluation.{Readable};
-ghost use Rattle.runner.specs.Known.{paramsIn, PairRead, ArgumentsRead};
-ghost use Rattle.runner.specs.Runs.{branchAt, slotAt, bounded, rangeNoted, boundsAt, framing, argumentsAt};
-use super::Bounds;
+ghost use Rattle.runner.specs.Runs.{stoppedAt, branchAt, slotAt, bounded, noBounds, rangeNoted, boundsAt, framing, valuesAt};
 
-// Stores at an index; past the end there is nothing to store in.
-pub fn put(list: &mut [u32], i: u32, v: u32)
-    ensures { λ _. ⌜ now (list .exit) ≡ set (now (list .entry)) i v ⌝ }
+// The stop of an evaluation, in a run that has taken `steps` steps.
+pub fn stopped(r: Value, steps: u32) -> Ran
+    ensures { λ x. ⌜ x ≡ stoppedAt r steps ⌝ }
 {
-    let at = i as usize;
-    if at < list.len() {
-        list[at] = v;
+    match r {
+        Value::Stop(number, place, used) => Ran::Stop(number, place, used, steps),
+        Value::Got(_, next, used) => Ran::On(next, used, steps),
     }
-}
-
-fn truth(v: u32) -> u32
-    ensures { λ r. ⌜ r ≡ arithmetic.truth v ⌝ }
-{
-    if v == 0 {
-        return 0;
-    }
-    1
 }
 
 // The condition of the if at `place`, with its entry: 0 or 1.
 pub fn branch(
     image: &[u32],
-    tables: &[u32],
-    vars: &[u32],
-    cells: &[u32],
+    table: &[u32; SIZE],
+    vars: &[u32; VARIABLES],
+    cells: &[u32; CELLS],
     trace: &mut [u8],
-    at: usize,
     place: usize,
     used: usize,
     level: u32,
-) -> tracing::Value
-    requires { ⌜ (Readable level (now image) (now tables) at) × (place < 268435456) ⌝ }
-    ensures { λ r. ⌜ evaluation r (now (trace .exit)) ≡ branchAt (imageIn (now (image .entry)) .arrays) place (now (vars .entry)) (now (cells .entry)) (log used (now (trace .entry))) (readExpression level (now (image .entry)) at) ⌝ }
+) -> Value
+    requires { ⌜ ExpressionRead level (now image) (place + 1) × Known (now image) (now table) ⌝ }
+    ensures { λ r. ⌜ evaluation r (now (trace .exit)) ≡ branchAt (imageIn (now (image .entry)) .arrays) place (now (vars .entry)) (now (cells .entry))
+        (log used (now (trace .entry))) (readExpression level (now (image .entry)) (place + 1)) ⌝ }
 {
-    match evaluator::evaluate(image, tables, vars, cells, trace, at, used, level) {
-        tracing::Value::Stop(number, stop, u) => tracing::Value::Stop(number, stop, u),
-        tracing::Value::Got(v, n, u) => tracing::note(trace, u, 1, place, truth(v), n),
-    }
+    let r = operand(image, table, vars, cells, trace, place + 1, used, level);
+    let Value::Got(v, n, u) = r else {
+        return r;
+    };
+    tracing::note(trace, u, tracing::BRANCH, place, operators::truth(v), n)
 }
 
 // The index of the store at `place`, with its entry and its test: the number of its cell.
 pub fn slot(
     image: &[u32],
-    tables: &[u32],
-    vars: &[u32],
-    cells: &[u32],
+    table: &[u32; SIZE],
+    vars: &[u32; VARIABLES],
+    cells: &[u32; CELLS],
     trace: &mut [u8],
-    at: usize,
     place: usize,
     array: u32,
     used: usize,
     level: u32,
-) -> tracing::Value
-    requires { ⌜ (Readable level (now image) (now tables) at) × (place < 268435456) ⌝ }
-    ensures { λ r. ⌜ evaluation r (now (trace .exit)) ≡ slotAt (imageIn (now (image .entry)) .arrays) (now (tables .entry)) array place (now (vars .entry)) (now (cells .entry)) (log used (now (trace .entry))) (readExpression level (now (image .entry)) at) ⌝ }
+) -> Value
+    requires { ⌜ ExpressionRead level (now image) (place + 1) × Known (now image) (now table) ⌝ }
+    ensures { λ r. ⌜ evaluation r (now (trace .exit)) ≡ slotAt (imageIn (now (image .entry)) .arrays) (now (table .entry)) array place (now (vars .entry))
+        (now (cells .entry)) (log used (now (trace .entry))) (readExpression level (now (image .entry)) (place + 1)) ⌝ }
 {
-    match evaluator::evaluate(image, tables, vars, cells, trace, at, used, level) {
-        tracing::Value::Stop(number, stop, u) => tracing::Value::Stop(number, stop, u),
-        tracing::Value::Got(v, n, u) => evaluator::index_at(tables, trace, u, array, place, v, n),
+    let r = operand(image, table, vars, cells, trace, place + 1, used, level);
+    let Value::Got(v, n, u) = r else {
+        return r;
+    };
+    evaluator::index_at(table, trace, u, array, place, v, n)
+}
+
+// The stop of a for's bounds.
+fn no_bounds(r: Value) -> Bounds
+    ensures { λ x. ⌜ x ≡ noBounds r ⌝ }
+{
+    match r {
+        Value::Stop(number, place, used) => Bounds::None(number, place, used),
+        Value::Got(v, next, used) => Bounds::Both(v, v, next, used),
     }
 }
 
@@ -91,118 +98,73 @@ fn note_range(
     requires { ⌜ place < 268435456 ⌝ }
     ensures { λ r. ⌜ bounded r (now (trace .exit)) ≡ rangeNoted place from to next (log used (now (trace .entry))) ⌝ }
 {
-    match tracing::note(trace, used, 2, place, from, next) {
-        tracing::Value::Stop(number, stop, u) => Bounds::Stop(number, stop, u),
-        tracing::Value::Got(_, n, u) => match tracing::note(trace, u, 3, place, to, n) {
-            tracing::Value::Stop(number, stop, u2) => Bounds::Stop(number, stop, u2),
-            tracing::Value::Got(_, m, u2) => Bounds::Both(from, to, m, u2),
-        },
-    }
+    let r = tracing::note(trace, used, tracing::LOOP_FROM, place, from, next);
+    let Value::Got(_, n, u) = r else {
+        return no_bounds(r);
+    };
+    let s = tracing::note(trace, u, tracing::LOOP_TO, place, to, n);
+    let Value::Got(_, m, v) = s else {
+        return no_bounds(s);
+    };
+    Bounds::Both(from, to, m, v)
 }
 
 // The bounds of the for at `place`, with their entries after both.
 pub fn range(
     image: &[u32],
-    tables: &[u32],
-    vars: &[u32],
-    cells: &[u32],
+    table: &[u32; SIZE],
+    vars: &[u32; VARIABLES],
+    cells: &[u32; CELLS],
     trace: &mut [u8],
-    at: usize,
     place: usize,
     used: usize,
     level: u32,
 ) -> Bounds
-    requires { ⌜ (PairRead level (now image) (now tables) at) × (place < 268435456) ⌝ }
-    ensures { λ r. ⌜ bounded r (now (trace .exit)) ≡ boundsAt (imageIn (now (image .entry)) .arrays) place (now (vars .entry)) (now (cells .entry)) (log used (now (trace .entry))) (readExpression level (now (image .entry)) at) (readExpression level (now (image .entry)) (endOf (readExpression level (now (image .entry)) at))) ⌝ }
+    requires { ⌜ PairRead level (now image) (place + 1) × Known (now image) (now table) ⌝ }
+    ensures { λ r. ⌜ bounded r (now (trace .exit)) ≡ boundsAt (imageIn (now (image .entry)) .arrays) place (now (vars .entry)) (now (cells .entry))
+        (log used (now (trace .entry))) (readExpression level (now (image .entry)) (place + 1))
+        (readExpression level (now (image .entry)) (endOf (readExpression level (now (image .entry)) (place + 1)))) ⌝ }
 {
-    match evaluator::evaluate(image, tables, vars, cells, trace, at, used, level) {
-        tracing::Value::Stop(number, stop, u) => Bounds::Stop(number, stop, u),
-        tracing::Value::Got(from, n, u) => match evaluator::evaluate(
-            image,
-            tables,
-            vars,
-            cells,
-            trace,
-            n,
-            u,
-            level,
-        ) {
-            tracing::Value::Stop(number, stop, u2) => Bounds::Stop(number, stop, u2),
-            tracing::Value::Got(to, m, u2) => note_range(trace, u2, place, from, to, m),
-        },
-    }
+    let r = operand(image, table, vars, cells, trace, place + 1, used, level);
+    let Value::Got(from, n, u) = r else {
+        return no_bounds(r);
+    };
+    let s = operand(image, table, vars, cells, trace, n, u, level);
+    let Value::Got(to, m, v) = s else {
+        return no_bounds(s);
+    };
+    note_range(trace, v, place, from, to, m)
 }
 
-// The values of a call, into the front of the frame of the procedure called.
+// The values of a call.
 pub fn arguments(
     image: &[u32],
-    tables: &[u32],
-    vars: &[u32],
-    cells: &[u32],
+    table: &[u32; SIZE],
+    vars: &[u32; VARIABLES],
+    cells: &[u32; CELLS],
     trace: &mut [u8],
-    frame: &mut [u32],
+    values: &mut [u32; PARAMETERS],
     count: u32,
     at: usize,
     used: usize,
     level: u32,
-) -> tracing::Value
-    requires { ⌜ ArgumentsRead count level (now image) (now tables) at ⌝ }
-    ensures { λ r. ⌜ framing r (now (frame .exit)) (now (trace .exit)) ≡ argumentsAt (imageIn (now (image .entry)) .arrays) (now (vars .entry)) (now (cells .entry)) (log used (now (trace .entry))) (now (frame .entry)) 0 (readArgumentsAt count level (now (image .entry)) at) ⌝ }
+) -> Value
+    requires { ⌜ (ok (argumentsAt count level (now image) at) ≡ true) × Known (now image) (now table) ⌝ }
+    ensures { λ r. ⌜ framing r (now (values .exit)) (now (trace .exit)) ≡ valuesAt (imageIn (now (image .entry)) .arrays) (now (vars .entry))
+        (now (cells .entry)) (log used (now (trace .entry))) (now (values .entry)) 0 (argumentsAt count level (now (image .entry)) at) ⌝ }
 {
     let mut k: u32 = 0;
     let mut a = at;
     let mut u = used;
     while k < count {
-        match evaluator::evaluate(image, tables, vars, cells, trace, a, u, level) {
-            tracing::Value::Stop(number, stop, u2) => return tracing::Value::Stop(number, stop, u2),
-            tracing::Value::Got(v, n, u2) => {
-                put(frame, k, v);
-                a = n;
-                u = u2;
-                k += 1;
-            }
-        }
+        let r = operand(image, table, vars, cells, trace, a, u, level);
+        let Value::Got(v, n, u2) = r else {
+            return r;
+        };
+        put(values, wide(k), v);
+        a = n;
+        u = u2;
+        k += 1;
     }
-    tracing::Value::Got(0, a, u)
-}
-
-// The place after a block, without a walk over it.
-pub fn block_end(
-    image: &[u32],
-    tables: &[u32],
-    ends: &[u32],
-    me: u32,
-    at: usize,
-    level: u32,
-) -> usize
-    requires { ⌜ (80 ≤ length (now tables)) × (BlockEnds (now image) (paramsIn (now tables)) (now ends)) × (ok (readBlock level (paramsIn (now tables)) me (now image) at) ≡ true) ⌝ }
-    ensures { λ r. ⌜ r ≡ endOf (readBlock level (paramsIn (now (tables .entry))) me (now (image .entry)) at) ⌝ }
-{
-    let params = &tables[48..];
-    reader::statements::block_end(image, params, me, ends, at, level)
-}
-
-// The place of a procedure's body, and how many values a call of it has.
-pub fn body_of(tables: &[u32], f: u32) -> usize
-    requires { ⌜ (f < 32) × (80 ≤ length (now tables)) ⌝ }
-    ensures { λ r. ⌜ r ≡ getD (now (tables .entry)) (16 + f) 0 ⌝ }
-{
-    let i = 16 + reader::tables::wide(f);
-    reader::tables::wide(tables[i])
-}
-
-pub fn parameters_of(tables: &[u32], f: u32) -> u32
-    requires { ⌜ (f < 32) × (80 ≤ length (now tables)) ⌝ }
-    ensures { λ r. ⌜ r ≡ getD (paramsIn (now (tables .entry))) f 0 ⌝ }
-{
-    let i = 48 + reader::tables::wide(f);
-    tables[i]
-}
-
-// The number of levels that a body may have.
-pub fn deepest(image: &[u32]) -> u32
-    requires { ⌜ 0 < length (now image) ⌝ }
-    ensures { λ r. ⌜ r ≡ largestLevel (formOf (getD (now (image .entry)) 0 0)) ⌝ }
-{
-    reader::words::largest_level(image[0] % 268435456 / 65536)
+    Value::Got(0, a, u)
 }

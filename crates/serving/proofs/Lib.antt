@@ -1,2 +1,2 @@
-pub mod ServedRules
-pub mod CallsRules
+pub mod Own
+pub mod Rules

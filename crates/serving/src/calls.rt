@@ -1,53 +1,41 @@
 // A call: the run's entries go into the lent trace as they arise.
-ghost use mathlib.Core.Path.{_≡_};
-ghost use mathlib.Core.List.{_++_};
-ghost use Prim.Native.Nat.{_*_, _/_, _≤_, min};
-ghost use lib.ListN.{length, take, drop};
-ghost use Rattle.definitions.specs.Bytes.{wordsOf, bytesOf, lent};
-ghost use Rattle.definitions.specs.Requests.{calledOn};
-ghost use Rattle.definitions.specs.Host.{callBytes};
-ghost use Rattle.laws.specs.ImageIn.{imageIn};
-ghost use Rattle.serving.specs.Served.{AnsweredCall, Called, Callable};
 use definitions::Answer;
 use machine::Machine;
 use ready::Ready;
+use ready::SHORT;
+use ready::prepare_to_serve;
+use tables::SIZE;
+ghost use mathlib.Core.Path.{_≡_};
+ghost use Prim.Native.Nat.{_/_, _*_, _≤_, min};
+ghost use lib.ListN.{length, take, replicate};
+ghost use Rattle.definitions.specs.Bytes.{wordsOf};
+ghost use Rattle.definitions.specs.Requests.{calledOn};
+ghost use Rattle.definitions.specs.Host.{callBytes};
+ghost use Rattle.laws.specs.ImageIn.{imageIn};
+ghost use Rattle.machine.specs.Serving.{Serves};
+ghost use Rattle.requests.specs.ByteRequests.{afterCall};
 
-// On the first n words, which are those of an image that is ready, with `count` cells.
+// On the words of an image that is ready, with `own` cells.
 fn call_cells(
     words: &[u32],
-    n: usize,
-    params: &[u32; 32],
-    places: &[u32; 32],
+    table: &[u32; SIZE],
     ends: &[u32],
     cells: &mut [u8],
-    count: usize,
+    own: usize,
     f: u32,
     arguments: &[u8],
     budget: u32,
     trace: &mut [u8],
 ) -> Answer
-    requires { ⌜ Callable (now words) n (now params) (now places) (now ends) (length (now cells)) count ⌝ }
-    ensures { λ r. ⌜ Called r (now (cells .entry)) (now (cells .exit)) (now (trace .entry)) (now (trace .exit)) count
-        (calledOn (imageIn (take n (now (words .entry)))) (take count (wordsOf (now (cells .entry)))) f (wordsOf (now (arguments .entry))) budget (length (wordsOf (now (trace .entry))))) ⌝ }
+    requires { ⌜ Serves (now words) (now table) (now ends) own × (own ≤ 1024) × (4 * own ≤ length (now cells)) ⌝ }
+    ensures { λ r. ⌜ (r, now (cells .exit), now (trace .exit)) ≡ afterCall (now (cells .entry)) own (now (trace .entry)) (calledOn (imageIn (now (words .entry)))
+        (take own (wordsOf (now (cells .entry)))) f (wordsOf (now (arguments .entry))) budget (length (wordsOf (now (trace .entry))))) ⌝ }
 {
-    let before = Machine::lent(cells, count);
-    let turn = before.call(
-        &words[0..n],
-        params,
-        places,
-        ends,
-        f,
-        arguments,
-        budget,
-        trace,
-    );
-    let after = turn.machine;
-    let answer = turn.answer;
-    after.give_back(cells);
-    answer
+    let turn = Machine::lent(cells, own).call(words, table, ends, f, arguments, budget, trace);
+    turn.give_back(cells)
 }
 
-// Working arrays are lent: the image's words, and the reader's tables.
+// Working arrays are lent: for the image's words, and for the places where its blocks end.
 fn call_with(
     image: &[u8],
     cells: &mut [u8],
@@ -56,35 +44,32 @@ fn call_with(
     budget: u32,
     trace: &mut [u8],
     words: &mut [u32],
-    params: &mut [u32; 32],
-    places: &mut [u32; 32],
     ends: &mut [u32],
 ) -> Answer
-    requires { ⌜ min (length (now image) / 4) 16384 ≤ length (now words) ⌝ }
-    ensures { λ r. ⌜ AnsweredCall r (now (cells .exit)) (now (trace .exit))
-        (callBytes (now (image .entry)) (now (cells .entry)) f (now (arguments .entry)) budget (now (trace .entry))) ⌝ }
+    requires { ⌜ (min (length (now image) / 4) 16384 ≤ length (now words)) × (now ends ≡ replicate (length (now ends)) 0) ⌝ }
+    ensures { λ r. ⌜ (r, now (cells .exit), now (trace .exit)) ≡ callBytes (now (image .entry)) (now (cells .entry)) f (now (arguments .entry)) budget (now (trace .entry)) ⌝ }
 {
-    let count = cells.len() / 4;
-    let r = ready::ready_to_serve(image, count, words, params, places, ends);
-    match r {
+    let mut table = [0u32; SIZE];
+    match prepare_to_serve(image, cells.len() / 4, words, &mut table, ends) {
         Ready::Unready(number, place) => Answer::Refused(number, place),
-        Ready::Words(n, own) => call_cells(
-            words,
-            n,
-            params,
-            places,
-            ends,
-            cells,
-            own,
-            f,
-            arguments,
-            budget,
-            trace,
-        ),
+        Ready::Cells(own) => {
+            let n = image.len() / 4;
+            call_cells(
+                &words[..n],
+                &table,
+                ends,
+                cells,
+                own,
+                f,
+                arguments,
+                budget,
+                trace,
+            )
+        }
     }
 }
 
-// A short image: arrays of its size spare the time to fill larger ones.
+// A short image.
 fn call_short(
     image: &[u8],
     cells: &mut [u8],
@@ -94,12 +79,9 @@ fn call_short(
     trace: &mut [u8],
 ) -> Answer
     requires { ⌜ length (now image) ≤ 2048 ⌝ }
-    ensures { λ r. ⌜ AnsweredCall r (now (cells .exit)) (now (trace .exit))
-        (callBytes (now (image .entry)) (now (cells .entry)) f (now (arguments .entry)) budget (now (trace .entry))) ⌝ }
+    ensures { λ r. ⌜ (r, now (cells .exit), now (trace .exit)) ≡ callBytes (now (image .entry)) (now (cells .entry)) f (now (arguments .entry)) budget (now (trace .entry)) ⌝ }
 {
     let mut words = [0u32; 512];
-    let mut params = [0u32; 32];
-    let mut places = [0u32; 32];
     let mut ends = [0u32; 512];
     call_with(
         image,
@@ -109,8 +91,6 @@ fn call_short(
         budget,
         trace,
         &mut words,
-        &mut params,
-        &mut places,
         &mut ends,
     )
 }
@@ -124,12 +104,9 @@ fn call_long(
     budget: u32,
     trace: &mut [u8],
 ) -> Answer
-    ensures { λ r. ⌜ AnsweredCall r (now (cells .exit)) (now (trace .exit))
-        (callBytes (now (image .entry)) (now (cells .entry)) f (now (arguments .entry)) budget (now (trace .entry))) ⌝ }
+    ensures { λ r. ⌜ (r, now (cells .exit), now (trace .exit)) ≡ callBytes (now (image .entry)) (now (cells .entry)) f (now (arguments .entry)) budget (now (trace .entry)) ⌝ }
 {
     let mut words = [0u32; 16384];
-    let mut params = [0u32; 32];
-    let mut places = [0u32; 32];
     let mut ends = [0u32; 16384];
     call_with(
         image,
@@ -139,8 +116,6 @@ fn call_long(
         budget,
         trace,
         &mut words,
-        &mut params,
-        &mut places,
         &mut ends,
     )
 }
@@ -154,10 +129,9 @@ pub fn call(
     budget: u32,
     trace: &mut [u8],
 ) -> Answer
-    ensures { λ r. ⌜ AnsweredCall r (now (cells .exit)) (now (trace .exit))
-        (callBytes (now (image .entry)) (now (cells .entry)) f (now (arguments .entry)) budget (now (trace .entry))) ⌝ }
+    ensures { λ r. ⌜ (r, now (cells .exit), now (trace .exit)) ≡ callBytes (now (image .entry)) (now (cells .entry)) f (now (arguments .entry)) budget (now (trace .entry)) ⌝ }
 {
-    if image.len() <= 2048 {
+    if image.len() <= SHORT {
         return call_short(image, cells, f, arguments, budget, trace);
     }
     call_long(image, cells, f, arguments, budget, trace)

@@ -1,23 +1,23 @@
 -- Rules for the functions that look at one word: one for each way in which they return. Assumes nothing.
-use Prim.Native.Nat.{ℕ, zero, suc, _/_, _%_, _≤_, _<_}
-use mathlib.Core.Path.{_≡_, refl, sym}
+use Prim.Native.Nat.{ℕ, zero, suc, _≤_, _<_}
+use mathlib.Core.Bool.{Bool, not, _||_}
 use mathlib.Core.List.{List}
-use lib.Dec.{leb, eqb}
-use lib.ListN.{length, getD, List·getD-eq-default}
+use mathlib.Core.Path.{_≡_, refl}
+use lib.Dec.{leb, eqb, ltb}
+use lib.ListN.{length, getD}
 use borrow.Author.Tests.{lt-ltb, le-ltb}
 use Rattle.definitions.specs.declared.Fault.{Fault}
+use Rattle.definitions.specs.Image.{typeSecret, typeSort}
 use Rattle.definitions.specs.Faults.{least, faultIf}
 use Rattle.definitions.specs.Operators.{unaryOperand, unaryResult}
-use Rattle.definitions.specs.Sorts.{sortOf}
+use Rattle.definitions.specs.Sorts.{sortOf, loopFault}
+use Rattle.sorts.specs.Walk.{targetNoted}
 
-pub sort-known : (types : List ℕ) (x : ℕ) → x < length types → getD types x 0 / 2 % 2 ≡ sortOf types x
-sort-known types x h = rw (lt-ltb x (length types) h)
+pub sort-known : (types : List ℕ) (x i s : ℕ) → i ≡ x → i < length types → s ≡ typeSort (getD types i 0) → s ≡ sortOf types x
+sort-known types x i s e h g = rw (← e, lt-ltb i (length types) h, g)
 
-pub sort-unknown : (types : List ℕ) (x : ℕ) → length types ≤ x → 2 ≡ sortOf types x
-sort-unknown types x h = rw (le-ltb x (length types) h)
-
-pub past-end : (marks : List ℕ) (x : ℕ) → length marks ≤ x → 0 ≡ getD marks x 0
-past-end marks x h = sym (List·getD-eq-default marks 0 h)
+pub sort-unknown : (types : List ℕ) (x i : ℕ) → i ≡ x → length types ≤ i → 2 ≡ sortOf types x
+sort-unknown types x i e h = rw (← e, le-ltb i (length types) h)
 
 pub operand-word : (op : ℕ) → (op ≡ 0 → ⊥) → (op ≡ 2 → ⊥) → 0 ≡ unaryOperand op
 operand-word zero f g = absurd (f refl)
@@ -31,10 +31,19 @@ result-word (suc zero) f = refl
 result-word (suc (suc zero)) f = refl
 result-word (suc (suc (suc n))) f = refl
 
-pub ruleset leaf·rules = (sort-known, sort-unknown, past-end, operand-word, result-word)
+pub ruleset leaf·rules = (sort-known, sort-unknown, operand-word, result-word)
 
--- a read of a variable notes two faults, one after the other
-pub variable-notes : (types marks : List ℕ) (x at : ℕ) (best m r : Fault) (k : ℕ) → m ≡ least best (faultIf (leb (length types) x) 6 at) → k ≡ getD marks x 0
-    → r ≡ least m (faultIf (eqb k 1) 8 at)
-    → r ≡ least (least best (faultIf (leb (length types) x) 6 at)) (faultIf (eqb (getD marks x 0) 1) 8 at)
-variable-notes types marks x at best m r k h g e = rw (← h, ← g, e)
+-- a variable is read, written, or named by a for: two faults are noted, one after the other
+module _ (types marks : List ℕ) (x at : ℕ) (best m r : Fault) (i k : ℕ) (h : m ≡ least best (faultIf (leb (length types) x) 6 at))
+    (e : i ≡ x) (g : k ≡ getD marks i 0) where
+  pub read-notes : r ≡ least m (faultIf (eqb k 1) 8 at)
+      → r ≡ least (least best (faultIf (leb (length types) x) 6 at)) (faultIf (eqb (getD marks x 0) 1) 8 at)
+  read-notes d = rw (← h, ← e, ← g, d)
+
+  pub write-notes : r ≡ least m (faultIf (not (eqb k 0)) 8 at) → r ≡ targetNoted types marks x at best
+  write-notes d = rw (← h, ← e, ← g, d)
+
+  pub loop-notes : (parameters w s : ℕ) (secret : Bool) → w ≡ getD types i 0 → secret ≡ typeSecret w → s ≡ typeSort w
+      → r ≡ least m (faultIf (ltb x parameters || (secret || (eqb s 1 || eqb k 2))) 8 at)
+      → r ≡ least (least best (faultIf (leb (length types) x) 6 at)) (loopFault types parameters marks x at)
+  loop-notes parameters w s secret v a b d = rw (← h, d, a, b, v, g, e)

@@ -3,3 +3,4 @@ pub mod ExpressionRules
 pub mod StatementRules
 pub mod BlockRules
 pub mod MarkRules
+pub mod ProcedureRules

@@ -6,22 +6,30 @@ use Rattle.definitions.specs.declared.Answer.{Answer}
 use Rattle.definitions.specs.declared.Checked.{Checked}
 use Rattle.definitions.specs.declared.Compiled.{Compiled}
 use Rattle.definitions.specs.Host.{checkBytes, compileBytes, answerWords, checkedWords, compiledWords, answerBytes}
-use Rattle.results.specs.Named.{checkedPlace, compiledPlace}
-use Rattle.translation.specs.PlacesBelow.{check-place, compile-place}
-use Rattle.serving.specs.Served.{Answered, AnsweredCall}
+use Rattle.results.specs.Named.{answerPlace, checkedPlace, compiledPlace}
+use Rattle.answers.specs.Places.{check-place, compile-place}
 
-pub both : (r : Answer) (after : List ℕ) (x : Answer × List ℕ) (answer answer′ : List ℕ) → Answered r after x → answer′ ≡ answerBytes answer (answerWords r)
-    → (after ≡ x .1) × (answer′ ≡ answerBytes answer (answerWords (x .0)))
-both r after x answer answer′ a e =
-    (ap (λ (y : Answer × List ℕ). y .1) (a .gives), e ∙ ap (λ (y : Answer × List ℕ). answerBytes answer (answerWords (y .0))) (a .gives))
+-- a request that gives its answer and the cells afterwards
+module _ (r : Answer) (after : List ℕ) (x : Answer × List ℕ) (e : (r, after) ≡ x) where
+  pub fits : answerPlace (x .0) < 4294967296 → answerPlace r < 4294967296
+  fits h = let z : r ≡ x .0 = ap (λ (y : Answer × List ℕ). y .0) e in rw z h
 
-pub all : (r : Answer) (after trace : List ℕ) (x : Answer × List ℕ × List ℕ) (answer answer′ : List ℕ) → AnsweredCall r after trace x
-    → answer′ ≡ answerBytes answer (answerWords r) → (after ≡ x .1) × (trace ≡ x .2) × (answer′ ≡ answerBytes answer (answerWords (x .0)))
-all r after trace x answer answer′ a e = (
-  ap (λ (y : Answer × List ℕ × List ℕ). y .1) (a .gives),
-  ap (λ (y : Answer × List ℕ × List ℕ). y .2) (a .gives),
-  e ∙ ap (λ (y : Answer × List ℕ × List ℕ). answerBytes answer (answerWords (y .0))) (a .gives),
-)
+  pub both : (answer answer′ : List ℕ) → answer′ ≡ answerBytes answer (answerWords r) → (after ≡ x .1) × (answer′ ≡ answerBytes answer (answerWords (x .0)))
+  both answer answer′ h =
+      (ap (λ (y : Answer × List ℕ). y .1) e, h ∙ ap (λ (y : Answer × List ℕ). answerBytes answer (answerWords (y .0))) e)
+
+-- a call, with the trace afterwards
+module _ (r : Answer) (after trace : List ℕ) (x : Answer × List ℕ × List ℕ) (e : (r, after, trace) ≡ x) where
+  pub call-fits : answerPlace (x .0) < 4294967296 → answerPlace r < 4294967296
+  call-fits h = let z : r ≡ x .0 = ap (λ (y : Answer × List ℕ × List ℕ). y .0) e in rw z h
+
+  pub all : (answer answer′ : List ℕ) → answer′ ≡ answerBytes answer (answerWords r)
+      → (after ≡ x .1) × (trace ≡ x .2) × (answer′ ≡ answerBytes answer (answerWords (x .0)))
+  all answer answer′ h = (
+    ap (λ (y : Answer × List ℕ × List ℕ). y .1) e,
+    ap (λ (y : Answer × List ℕ × List ℕ). y .2) e,
+    h ∙ ap (λ (y : Answer × List ℕ × List ℕ). answerBytes answer (answerWords (y .0))) e,
+  )
 
 -- the checker's answer
 pub check-fits : (image : List ℕ) (r : Checked) → r ≡ checkBytes image → checkedPlace r < 4294967296

@@ -7,7 +7,7 @@ ghost use Rattle.tinesage.specs.Contracts.{Checks, Compiles, Loads, Clea
 pub extern "C" fn tinesage_check(image: &[u8], answer: &mut [u8])
     ensures { λ _. ⌜ Checks (now (image .entry)) (now (answer .entry)) (now (answer .exit)) ⌝ }
 {
-    let a = translation::check_bytes(image);
+    let a = lent_images::check_bytes(image);
     answers::put_checked(answer, a);
 }
 
@@ -16,7 +16,7 @@ pub extern "C" fn tinesage_check(image: &[u8], answer: &mut [u8])
 pub extern "C" fn tinesage_compile(image: &[u8], out: &mut [u8], answer: &mut [u8])
     ensures { λ _. ⌜ Compiles (now (image .entry)) (now (out .entry)) (now (answer .entry)) (now (out .exit)) (now (answer .exit)) ⌝ }
 {
-    let a = translation::compile_bytes(image, out);
+    let a = lent_images::compile_bytes(image, out);
     answers::put_compiled(answer, a);
 }
 
@@ -25,7 +25,7 @@ pub extern "C" fn tinesage_compile(image: &[u8], out: &mut [u8], answer: &mut [u
 pub extern "C" fn tinesage_load(image: &[u8], cells: &mut [u8], answer: &mut [u8])
     ensures { λ _. ⌜ Loads (now (image .entry)) (now (cells .entry)) (now (answer .entry)) (now (cells .exit)) (now (answer .exit)) ⌝ }
 {
-    let a = serving::whole::load(image, cells);
+    let a = serving::cells::load(image, cells);
     answers::put_answer(answer, a);
 }
 
@@ -34,7 +34,7 @@ pub extern "C" fn tinesage_load(image: &[u8], cells: &mut [u8], answer: &mut [u8
 pub extern "C" fn tinesage_clear(image: &[u8], cells: &mut [u8], answer: &mut [u8])
     ensures { λ _. ⌜ Clears (now (image .entry)) (now (cells .entry)) (now (answer .entry)) (now (cells .exit)) (now (answer .exit)) ⌝ }
 {
-    let a = serving::whole::clear(image, cells);
+    let a = serving::cells::clear(image, cells);
     answers::put_answer(answer, a);
 }
 
@@ -50,7 +50,7 @@ pub extern "C" fn tinesage_poke(
 )
     ensures { λ _. ⌜ Pokes (now (image .entry)) (now (cells .entry)) array index value (now (answer .entry)) (now (cells .exit)) (now (answer .exit)) ⌝ }
 {
-    let a = serving::single::poke(image, cells, array, index, value);
+    let a = serving::cells::poke(image, cells, array, index, value);
     answers::put_answer(answer, a);
 }
 
@@ -65,7 +65,7 @@ pub extern "C" fn tinesage_peek(
 )
     ensures { λ _. ⌜ Peeks (now (image .entry)) (now (cells .entry)) array index (now (answer .entry)) (now (answer .exit)) ⌝ }
 {
-    let a = serving::single::peek(image, cells, array, index);
+    let a = serving::cells::peek(image, cells, array, index);
     answers::put_answer(answer, a);
 }
 

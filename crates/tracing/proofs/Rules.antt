@@ -7,6 +7,7 @@ use borrow.Author.Tests.{lt-ltb, le-ltb}
 use lib.ListN.{length}
 use lib.Seq.{sets}
 use Rattle.definitions.specs.Bytes.{word4}
+use Rattle.definitions.specs.Encoding.{wordWith}
 use Rattle.definitions.specs.Running.{emit}
 use Rattle.tracing.specs.declared.Value.the-variants.{Got, Stop}
 use Rattle.tracing.specs.Log.{log, byteTrace}
@@ -25,10 +26,10 @@ module _ (slice : List ℕ) (used kind place v next : ℕ) where
       → evaluation (Stop 22 place used) slice ≡ until next (emit byteTrace kind place v (log used slice))
   note-spent f h = note-full (omega arith)
 
-  pub note-kept : (mid last : List ℕ) → used ≤ length slice - 8 → 8 ≤ length slice
-      → mid ≡ sets slice used (word4 (kind * 268435456 + place)) → last ≡ sets mid (used + 4) (word4 v)
+  pub note-kept : (mid last : List ℕ) (head : ℕ) → used ≤ length slice - 8 → 8 ≤ length slice → head ≡ wordWith kind place
+      → mid ≡ sets slice used (word4 head) → last ≡ sets mid (used + 4) (word4 v)
       → evaluation (Got v next (used + 8)) last ≡ until next (emit byteTrace kind place v (log used slice))
   unfolding emit evaluation until
-  note-kept mid last h n e d = rw (d, e, le-ltb (length slice) (used + 8) (omega arith))
+  note-kept mid last head h n w e d = rw (d, e, w, le-ltb (length slice) (used + 8) (omega arith))
 
 pub ruleset note·rules = (note-short, note-spent, note-kept)

@@ -1,9 +1,27 @@
 // Trace entries in the lent bytes: two words each, straight into the slice, since it has no bound.
+use image_words::made::word_with;
 ghost use mathlib.Core.Path.{_≡_};
 ghost use Prim.Native.Nat.{_<_};
 ghost use Rattle.definitions.specs.Running.{emit};
 ghost use Rattle.tracing.specs.Log.{log, byteTrace};
 ghost use Rattle.tracing.specs.Answers.{evaluation, until};
+
+// The kinds of entries.
+pub const BRANCH: u32 = 1;
+
+pub const LOOP_FROM: u32 = 2;
+
+pub const LOOP_TO: u32 = 3;
+
+pub const INDEX: u32 = 4;
+
+pub const DIVIDEND: u32 = 5;
+
+pub const DIVISOR: u32 = 6;
+
+pub const CALLED: u32 = 7;
+
+pub const RETURNED: u32 = 8;
 
 // What an evaluation comes to.
 pub enum Value {
@@ -22,7 +40,7 @@ pub fn note(
     value: u32,
     next: usize,
 ) -> Value
-    requires { ⌜ (kind < 16) × (place < 268435456) ⌝ }
+    requires { ⌜ (kind < 15) × (place < 268435456) ⌝ }
     ensures { λ r. ⌜ evaluation r (now (trace .exit)) ≡ until next (emit byteTrace kind place value (log used (now (trace .entry)))) ⌝ }
 {
     let n = trace.len();
@@ -33,8 +51,7 @@ pub fn note(
     if n - 8 < used {
         return Value::Stop(22, place, used);
     }
-    let head = kind * 268435456 + place as u32;
-    words::put_word(trace, used, head);
+    words::put_word(trace, used, word_with(kind, place as u32));
     words::put_word(trace, used + 4, value);
     Value::Got(value, next, used + 8)
 }

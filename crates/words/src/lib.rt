@@ -6,6 +6,8 @@ ghost use lib.ListN.{length, take, drop};
 ghost use lib.Seq.{sets};
 ghost use Rattle.definitions.specs.Bytes.{wordAt, wordsOf, word4, bytesOf};
 
+pub mod images; // the words of a lent image
+
 // A cast that says how large its result is: with that, the sums of `word` are proved to fit with no file.
 fn wide(x: u8) -> u32
     ensures { λ r. ⌜ (r ≡ x) × (r < 256) ⌝ }

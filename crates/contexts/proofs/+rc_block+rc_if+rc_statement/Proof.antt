@@ -1,13 +1,19 @@
+-- The functions of `contexts` that call each other meet their contracts. Assumes nothing.
 use native.Mathlib.Omega.{arith}
 use Prim.Native.Nat.{_*_, _+_, _-_, _≤_, ℕ, _<_}
 use mathlib.Core.Bool.{true}
-use mathlib.Core.Path.{_≡_}
+use mathlib.Core.Path.{_≡_, refl}
 use Rattle.laws.specs.Parses.{ok, endOf}
-use Rattle.contexts.specs.Fine.{statementsLeft}
 use Rattle.definitions.specs.Reading.{readBlock}
+use Rattle.image_words.specs.Read.{statementsAt}
+use Rattle.image_words.specs.StatementParts.{read-assign, read-store, read-return, read-if, read-bounds, is-call}
+use Rattle.image_words.specs.Skipping.{skip-expression, skip-pair}
+use Rattle.tables.specs.Table.{arraysIn, paramsIn}
 use Rattle.contexts.specs.Context.{passedBlock}
-use Rattle.contexts.specs.StatementParts.{fine-assign, fine-store, fine-return, fine-if, fine-bounds, fine-called, fine-call}
-use Rattle.contexts.proofs.Passing.{pass·rules, pass-if, for-fine, then-fine, else-fine, block-ready, block-begin, block-done, block-fine, block-again, block-more}
+use Rattle.image_words.specs.Rest.{block-ready, next-statement, call-skips}
+use Rattle.contexts.proofs.Passing.{pass-assign, pass-store, pass-return, pass-for, pass-call}
+use Rattle.contexts.proofs.Passing.{pass-if, for-fine, then-fine, else-fine, block-begin}
+use Rattle.contexts.proofs.Passing.{block-done, block-again, block-more}
 use borrow.Author.Needs.{needs}
 use borrow.Fn.Kinds.{In}
 use borrow.Fn.PlainCycle.{Measures, is, falls, and}
@@ -21,104 +27,170 @@ use Rattle.contexts.proofs.rc_statement.Reads as rc-statement
 use Rattle.contexts.proofs.rc_statement.Kinds as rc-statement-kinds
 use Rattle.contexts.proofs.+rc_block+rc_if+rc_statement.Lts-rc_statement as rc-statement-lts
 use Rattle.contexts.proofs.secret_expression.Reads as secret-expression-reads
-use Rattle.contexts.proofs.secret_two.Reads as secret-two-reads
-use Rattle.contexts.proofs.skip_arguments.Reads as skip-arguments-reads
+use Rattle.image_words.proofs.called.Reads as called-reads
+use Rattle.image_words.proofs.lists.wide.Reads as wide-reads
+use Rattle.image_words.proofs.op.Reads as op-reads
+use Rattle.image_words.proofs.payload.Reads as payload-reads
+use Rattle.image_words.proofs.skipping.skip.Reads as skip-reads
+use Rattle.tables.proofs.parameters.Reads as parameters-reads
 use Rattle.contexts.proofs.+rc_block+rc_if+rc_statement.{statement}
 use Rattle.contexts.proofs.+rc_block+rc_if+rc_statement.Tie.{close}
 
-abbrev μ-rc-block : Measures 4 rc-block-kinds.ps ℕ
-μ-rc-block κs a = 3 * a .1 .1 .1 .1 .1 .1 .1 .1 .0 + 2
+abbrev μ-rc-block : Measures 3 rc-block-kinds.ps ℕ
+μ-rc-block κs a = 3 * a .1 .1 .1 .1 .1 .1 .0 + 2
 
-abbrev μ-rc-if : Measures 4 rc-if-kinds.ps ℕ
-μ-rc-if κs a = 3 * a .1 .1 .1 .1 .1 .1 .1 .1 .0
+abbrev μ-rc-if : Measures 3 rc-if-kinds.ps ℕ
+μ-rc-if κs a = 3 * a .1 .1 .1 .1 .1 .1 .0
 
-abbrev μ-rc-statement : Measures 4 rc-statement-kinds.ps ℕ
-μ-rc-statement κs a = 3 * a .1 .1 .1 .1 .1 .1 .1 .1 .0 + 1
+abbrev μ-rc-statement : Measures 3 rc-statement-kinds.ps ℕ
+μ-rc-statement κs a = 3 * a .1 .1 .1 .1 .1 .1 .0 + 1
 
-abbrev rc-block-at : ℕ → In 4 rc-block-kinds.ps
-rc-block-at t = and 4 rc-block-kinds.ps (is 4 rc-block-kinds.ps μ-rc-block t) rc-block.Pre
+abbrev rc-block-at : ℕ → In 3 rc-block-kinds.ps
+rc-block-at t = and 3 rc-block-kinds.ps (is 3 rc-block-kinds.ps μ-rc-block t) rc-block.Pre
 
-abbrev rc-block-below : ℕ → In 4 rc-block-kinds.ps
-rc-block-below t = and 4 rc-block-kinds.ps (falls 4 rc-block-kinds.ps _<_ μ-rc-block t) rc-block.Pre
+abbrev rc-block-below : ℕ → In 3 rc-block-kinds.ps
+rc-block-below t = and 3 rc-block-kinds.ps (falls 3 rc-block-kinds.ps _<_ μ-rc-block t) rc-block.Pre
 
-abbrev rc-if-at : ℕ → In 4 rc-if-kinds.ps
-rc-if-at t = and 4 rc-if-kinds.ps (is 4 rc-if-kinds.ps μ-rc-if t) rc-if.Pre
+abbrev rc-if-at : ℕ → In 3 rc-if-kinds.ps
+rc-if-at t = and 3 rc-if-kinds.ps (is 3 rc-if-kinds.ps μ-rc-if t) rc-if.Pre
 
-abbrev rc-if-below : ℕ → In 4 rc-if-kinds.ps
-rc-if-below t = and 4 rc-if-kinds.ps (falls 4 rc-if-kinds.ps _<_ μ-rc-if t) rc-if.Pre
+abbrev rc-if-below : ℕ → In 3 rc-if-kinds.ps
+rc-if-below t = and 3 rc-if-kinds.ps (falls 3 rc-if-kinds.ps _<_ μ-rc-if t) rc-if.Pre
 
-abbrev rc-statement-at : ℕ → In 4 rc-statement-kinds.ps
-rc-statement-at t = and 4 rc-statement-kinds.ps (is 4 rc-statement-kinds.ps μ-rc-statement t) rc-statement.Pre
+abbrev rc-statement-at : ℕ → In 3 rc-statement-kinds.ps
+rc-statement-at t = and 3 rc-statement-kinds.ps (is 3 rc-statement-kinds.ps μ-rc-statement t) rc-statement.Pre
 
-abbrev rc-statement-below : ℕ → In 4 rc-statement-kinds.ps
-rc-statement-below t = and 4 rc-statement-kinds.ps (falls 4 rc-statement-kinds.ps _<_ μ-rc-statement t) rc-statement.Pre
+abbrev rc-statement-below : ℕ → In 3 rc-statement-kinds.ps
+rc-statement-below t =
+    and 3 rc-statement-kinds.ps (falls 3 rc-statement-kinds.ps _<_ μ-rc-statement t) rc-statement.Pre
 
 abbrev rc-block-Inv-loop : rc-block-lts.InvT-loop
-rc-block-Inv-loop image types arrays params at pc rc me level count j₀ a₀ r₀ j a r = (j ≤ count) × (ok (statementsLeft (count - j) (level - 1) params me image a) ≡ true) × (passedBlock types arrays pc r (statementsLeft (count - j) (level - 1) params me image a) ≡ passedBlock types arrays pc rc (readBlock level params me image at))
+rc-block-Inv-loop image table types me context at level count j₀ a₀ r₀ j a r =
+    (j ≤ count) × (ok (statementsAt (count - j) (level - 1) (paramsIn table) me image a) ≡ true) × (passedBlock types (arraysIn
+    table) (context .pc) r (statementsAt (count - j) (level - 1) (paramsIn table) me image a) ≡ passedBlock types (arraysIn table)
+    (context .pc) (context .rc) (readBlock level (paramsIn table) me image at))
 
 abbrev rc-block-μ-loop : rc-block-lts.MeasureT-loop
-rc-block-μ-loop image types arrays params at pc rc me level count j₀ a₀ r₀ j a r = count - j
+rc-block-μ-loop image table types me context at level count j₀ a₀ r₀ j a r = count - j
 
 abbrev rc-block-callees : ℕ → rc-block-lts.Claims
 rc-block-callees t =
-    (rc-statement-below t, rc-statement.Post)
+    (payload-reads.Asked, payload-reads.Learnt, rc-statement-below t, rc-statement.Post)
 
 abbrev rc-if-callees : ℕ → rc-if-lts.Claims
 rc-if-callees t =
     (secret-expression-reads.Asked, secret-expression-reads.Learnt, rc-block-below t, rc-block.Post)
 
 abbrev rc-statement-callees : ℕ → rc-statement-lts.Claims
-rc-statement-callees t =
-    (secret-expression-reads.Asked, secret-expression-reads.Learnt, secret-two-reads.Asked, secret-two-reads.Learnt, rc-if-below t, rc-if.Post, rc-block-below t, rc-block.Post, skip-arguments-reads.Asked, skip-arguments-reads.Learnt)
+rc-statement-callees t = (
+  op-reads.Asked,
+  op-reads.Learnt,
+  skip-reads.Asked,
+  skip-reads.Learnt,
+  rc-if-below t,
+  rc-if.Post,
+  rc-block-below t,
+  rc-block.Post,
+  called-reads.Asked,
+  called-reads.Learnt,
+  parameters-reads.Asked,
+  parameters-reads.Learnt,
+  wide-reads.Asked,
+  wide-reads.Learnt,
+)
 
 pub +rc-block+rc-if+rc-statement-spec : {M : Type 1} → statement M
 +rc-block+rc-if+rc-statement-spec = close μ-rc-block μ-rc-if μ-rc-statement (λ t. rc-block-lts.spec (rc-block-callees t) (rc-block-at t) rc-block.Post rc-block-Inv-loop rc-block-μ-loop
-    (λ c. search needs)  -- mul-count
-    (λ c. search needs)  -- shared-slice-read-count
+    (λ c. search needs) (λ c. search needs) (λ c κs. search needs)  -- mul-payload, shared-slice-read-payload, payload-requires
     (λ c. search needs)  -- add-a
-    (λ c. (search needs, search block-ready, search block-begin))  -- loop-holds
+    -- loop-holds
+    (λ c. (
+      search needs,
+      block-ready _ _ _ _ _ (c .before .before .before .before .pre .1 .read) _ (c .payload .ensures .0),
+      block-begin _
+          _ _ _ _ _ _ _ _ (c .before .before .before .before .pre .1 .read) _ (c .payload .ensures .0),
+    ))
     (λ c. search needs)  -- sub-rc-statement
-    (λ c κs. (search needs, block-fine _ _ _ _ _ _ _ (c .before .loop .inv .1) (c .loop-test .taken) (c .before .before .before .before .before .before .before .pre .1 .2)))  -- rc-statement-requires
-    (λ c. search needs)  -- add-j
-    (λ c. search needs)  -- loop-less
+    (λ c κs. (search needs, next-statement _ _ _ _ _ _ _ (c .before .loop .inv .1) (c .loop-test .taken)))  -- rc-statement-requires
+    (λ c. search needs) (λ c. search needs)  -- add-j, loop-less
     (λ c. (search needs, search block-again, search block-more))  -- loop-again
     (λ c. search (block-done, needs))  -- returns
     ) (λ t. rc-if-lts.spec (rc-if-callees t) (rc-if-at t) rc-if.Post
-    (λ c. search needs)  -- add-secret-expression
-    (λ c. search needs)  -- sub-secret-expression
-    (λ c κs. fine-if _ _ _ _ _ (c .before .before .before .before .pre .1 .0 .3) (c .before .before .before .before .pre .1 .1))  -- secret-expression-requires
+    (λ c. search needs) (λ c. search needs)  -- add-secret-expression, sub-secret-expression
+    -- secret-expression-requires
+    (λ c κs. read-if _ _ _ _ _ (c .before .before .pre .1 .0 .read) _ refl (c .before .before .pre .1 .1))
     (λ c. search needs)  -- sub-rc-block
-    (λ c κs. (search needs, then-fine _ _ true true _ _ _ _ _ (c .before .before .before .before .before .before .pre .1 .0 .3) (c .before .before .before .before .before .before .pre .1 .1) _ (c .before .secret-expression .ensures) (c .before .before .before .before .before .before .pre .1 .0 .2)))  -- rc-block-requires
+    -- rc-block-requires
+    (λ c κs. (
+      search needs,
+      then-fine _ _ true true _ _ _ _ _ (c .before .before .before .before .before .pre .1 .0 .read) _ refl (c
+          .before .before .before .before .before .pre .1 .1) _ (c .before .before .secret-expression .ensures),
+    ))
     (λ c. search needs)  -- sub-rc-block-2
-    (λ c κs. (search needs, else-fine _ _ true _ _ _ _ _ _ (c .before .before .before .before .before .before .before .pre .1 .0 .3) (c .before .before .before .before .before .before .before .pre .1 .1) _ (c .before .before .secret-expression .ensures) _ _ (c .rc-block .ensures) (c .before .before .before .before .before .before .before .pre .1 .0 .2)))  -- rc-block-requires-2
-    (λ c. pass-if _ _ _ _ _ _ _ _ _ (c .before .before .before .before .before .before .before .before .before .before .pre .1 .0 .3) (c .before .before .before .before .before .before .before .before .before .before .pre .1 .1) _ (c .before .before .before .before .before .secret-expression .ensures) _ _ (c .before .before .before .rc-block .ensures) (c .before .before .rc-block2 .ensures))  -- returns
+    -- rc-block-requires-2
+    (λ c κs. (
+      search needs,
+      else-fine _ _ true _ _ _ _ _ _ (c .before .before .before .before .before .before .pre .1 .0 .read) _
+          refl (c .before .before .before .before .before .before .pre .1 .1) _ (c .before .before .before .secret-expression
+          .ensures) _ _ (c .rc-block .ensures),
+    ))
+    -- returns
+    (λ c. let pre· = c .before .before .before .before .before .before .before .before .before .pre .1 in pass-if _ _ _ _ _ _ _ _ _
+    (pre· .0 .read) _ refl (pre· .1) _ (c .before .before .before .before .before .before .secret-expression .ensures) _ _ (c
+    .before .before .before .rc-block .ensures) (c .before .before .rc-block2 .ensures))
     ) λ t. rc-statement-lts.spec (rc-statement-callees t) (rc-statement-at t) rc-statement.Post
-    (λ c. search needs)  -- mul-w
-    (λ c. search needs)  -- shared-slice-read-w
-    (λ c. search needs)  -- add-secret-expression
-    (λ c. search needs)  -- sub-secret-expression
-    (λ c κs. fine-assign _ _ _ _ _ (c .before .before .before .before .before .before .pre .1 .3) (c .if1 .taken))  -- secret-expression-requires
-    (λ c. search (pass·rules, needs))  -- returns
-    (λ c. search needs)  -- add-secret-two
-    (λ c. search needs)  -- sub-secret-two
-    (λ c κs. fine-store _ _ _ _ _ (c .before .before .before .before .before .before .before .pre .1 .3) (c .if2 .taken))  -- secret-two-requires
-    (λ c. search (pass·rules, needs))  -- returns-2
-    (λ c κs. search needs)  -- rc-if-requires
-    (λ c. search (pass·rules, needs))  -- returns-3
-    (λ c. search needs)  -- add-secret-two-2
-    (λ c. search needs)  -- sub-secret-two-2
-    (λ c κs. fine-bounds _ _ _ _ _ (c .before .before .before .before .before .before .before .before .before .pre .1 .3) (c .if4 .taken))  -- secret-two-requires-2
+    (λ c. search needs) (λ c. search needs) (λ c κs. search needs)  -- mul-w, shared-slice-read-w, op-requires
+    (λ c. search needs)  -- add-skip
+    -- skip-requires
+    (λ c κs. skip-expression _ _ _ (read-assign _ _ _ _ _ (c .before .before .before .before .before .pre .1 .read) _ (c .before .op
+    .ensures) (c .if1 .taken) .read))
+    -- returns
+    (λ c. pass-assign _ _ _ _ _ _ _ _ _ (c .before .before .before .before .before .before .pre .1 .read) _ (c .before .before .op
+    .ensures) _ (c .before .if1 .taken) (c .skip .ensures))
+    (λ c. search needs)  -- add-skip-2
+    -- skip-requires-2
+    (λ c κs. skip-pair _ _ _ (read-store _ _ _ _ _ (c .before .before .before .before .before .before .pre .1 .read) _ (c .before
+    .before .op .ensures) (c .if2 .taken)))
+    -- returns-2
+    (λ c. pass-store _ _ _ _ _ _ _ _ _ (c .before .before .before .before .before .before .before .pre .1 .read) _ (c .before
+    .before .before .op .ensures) _ (c .before .if2 .taken) (c .skip2 .ensures))
+    (λ c κs. search needs) (λ c. search needs) (λ c. search needs)  -- rc-if-requires, returns-3, add-skip-3
+    -- skip-requires-3
+    (λ c κs. skip-pair _ _ _ (read-bounds _ _ _ _ _ (c .before .before .before .before .before .before .before .before .pre .1
+    .read) _ (c .before .before .before .before .op .ensures) (c .if4 .taken)))
     (λ c. search needs)  -- sub-rc-block
-    (λ c κs. (search needs, for-fine _ _ true true _ _ _ _ _ (c .before .before .before .before .before .before .before .before .before .before .pre .1 .3) _ (c .before .if4 .taken) (c .before .before .before .before .before .before .before .before .before .before .pre .1 .2) (c .secret-two2 .ensures)))  -- rc-block-requires
-    (λ c. search (pass·rules, needs))  -- returns-4
-    (λ c. search needs)  -- add-secret-expression-2
-    (λ c. search needs)  -- sub-secret-expression-2
-    (λ c κs. fine-return _ _ _ _ _ (c .before .before .before .before .before .before .before .before .before .before .pre .1 .3) (c .if5 .taken))  -- secret-expression-requires-2
-    (λ c. search (pass·rules, needs))  -- returns-5
-    (λ c. search needs)  -- cast-f
-    (λ c. search needs)  -- mul-n
-    (λ c. omega (arith, fine-called _ _ _ _ _ (c .before .before .before .before .before .before .before .before .before .before .before .pre .1 .3) (c .before .before .before .before .before .if1 .left) (c .before .before .before .before .if2 .left) (c .before .before .before .if3 .left) (c .before .before .if4 .left) (c .before .if5 .left)))  -- shared-slice-read-n
-    (λ c. search needs)  -- add-skip-arguments
-    (λ c. search needs)  -- sub-skip-arguments
-    (λ c κs. fine-call _ _ _ _ _ (c .before .before .before .before .before .before .before .before .before .before .before .pre .1 .3) (c .before .before .before .before .before .if1 .left) (c .before .before .before .before .if2 .left) (c .before .before .before .if3 .left) (c .before .before .if4 .left) (c .before .if5 .left))  -- skip-arguments-requires
-    (λ c. search (pass·rules, needs))  -- returns-6
+    -- rc-block-requires
+    (λ c κs. (
+      search needs,
+      for-fine _ _ _ _ _ (c .before .before .before .before .before .before .before .before .before .pre .1
+          .read) _ (c .before .before .before .before .before .op .ensures) _ (c .before .if4 .taken) (c .skip3 .ensures),
+    ))
+    -- returns-4
+    (λ c. pass-for _ _ _ _ _ _ _ _ _ (c .before .before .before .before .before .before .before .before .before .before .pre .1
+    .read) _ (c .before .before .before .before .before .before .op .ensures) _ _ (c .before .before .if4 .taken) (c .before
+    .skip3 .ensures) (c .rc-block .ensures))
+    (λ c. search needs)  -- add-skip-4
+    -- skip-requires-4
+    (λ c κs. skip-expression _ _ _ (read-return _ _ _ _ _ (c .before .before .before .before .before .before .before .before .before
+    .pre .1 .read) _ (c .before .before .before .before .before .op .ensures) (c .if5 .taken) .read))
+    -- returns-5
+    (λ c. pass-return _ _ _ _ _ _ _ _ _ (c .before .before .before .before .before .before .before .before .before .before .before
+    .pre .1 .read) _ (c .before .before .before .before .before .before .before .op .ensures) _ (c .before .before .if5 .taken)
+    (c .before .skip4 .ensures))
+    (λ c κs. search needs) (λ c κs. search needs) (λ c. search needs)  -- called-requires, parameters-requires, add-skip-5
+    (λ c κs. search needs)  -- wide-requires
+    -- skip-requires-5
+    (λ c κs. let pre· = c .before .before .before .before .before .before .before .before .before .before .before .before .pre .1 in
+    let op· = c .before .before .before .before .before .before .before .before .op in call-skips _ _ _ _ _ (pre· .read) _ (op·
+    .ensures) (is-call _ _ _ _ _ (pre· .read) _ (op· .ensures) (c .before .before .before .before .before .before .before
+    .if1 .left) (c .before .before .before .before .before .before .if2 .left) (c .before .before .before .before .before .if3
+    .left) (c .before .before .before .before .if4 .left) (c .before .before .before .if5 .left)) _ _ _ (c .before .before .called
+    .ensures .0) (c .before .parameters .ensures) (c .wide .ensures .0))
+    -- returns-6
+    (λ c. let pre· = c .before .before .before .before .before .before .before .before .before .before .before .before .before .pre
+    .1 in let op· = c .before .before .before .before .before .before .before .before .before .op in pass-call _ _ _ _ _ _ _ _ _
+    (pre· .read) _ (op· .ensures) _ _ _ _ (is-call _ _ _ _ _ (pre· .read) _ (op· .ensures) (c .before .before .before .before
+    .before .before .before .before .if1 .left) (c .before .before .before .before .before .before .before .if2 .left) (c
+    .before .before .before .before .before .before .if3 .left) (c .before .before .before .before .before .if4 .left) (c
+    .before .before .before .before .if5 .left)) (c .before .before .before .called .ensures .0) (c .before .before .parameters
+    .ensures) (c .before .wide .ensures .0) (c .skip5 .ensures))

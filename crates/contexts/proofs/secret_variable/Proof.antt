@@ -1,14 +1,13 @@
-use Rattle.contexts.proofs.Sight.{no-type}
+-- `contexts::secret_variable` meets its contract. Assumes nothing.
+use Rattle.contexts.proofs.Sight.{type-label}
 use borrow.Author.Needs.{needs}
 use Rattle.contexts.proofs.secret_variable.Statement.{statement}
 use Rattle.contexts.proofs.secret_variable.Tie as tie
-use Rattle.contexts.proofs.secret_variable.Reads as reads
-use Rattle.contexts.proofs.secret_variable.Lts as lts
 
 pub secret-variable-spec : {M : Type 1} → statement M
 secret-variable-spec = tie.close (tie.spec
-    (λ c. search needs)  -- mul-result
-    (λ c. search needs)  -- shared-slice-read-result
-    (λ c. search needs)  -- returns
-    (λ c. search (no-type, needs))  -- returns-2
+    (λ c κs. search needs) (λ c κs. search needs) (λ c κs. search needs)  -- wide-requires, element-requires, type-secret-requires
+    -- returns
+    (λ c. let args· = c .before .before .before .before .args in type-label (args· .types .now) (args· .x) _ _ _ (c .before .before
+    .wide .ensures .0) (c .before .element .ensures) (c .type-secret .ensures))
     )

@@ -1,9 +1,8 @@
+-- `copying::renumber` meets its contract. Assumes nothing.
 use Rattle.copying.proofs.Rules.{renumber-low, renumber-high}
 use borrow.Author.Needs.{needs}
 use Rattle.copying.proofs.renumber.Statement.{statement}
 use Rattle.copying.proofs.renumber.Tie as tie
-use Rattle.copying.proofs.renumber.Reads as reads
-use Rattle.copying.proofs.renumber.Lts as lts
 
 pub renumber-spec : {M : Type 1} → statement M
 renumber-spec = tie.close (tie.spec

@@ -1,34 +1,72 @@
-use mathlib.Core.Path.{refl}
+-- `emission::emit_call_statement` meets its contract. Assumes nothing.
 use native.Mathlib.Omega.{arith}
-use Rattle.emission.proofs.Simple.{call-is, simple-call}
+use Rattle.emission.proofs.Simple.{called-listed, values-read, simple-call}
 use borrow.Author.Needs.{needs}
 use Rattle.emission.proofs.emit_call_statement.Statement.{statement}
 use Rattle.emission.proofs.emit_call_statement.Tie as tie
-use Rattle.emission.proofs.emit_call_statement.Reads as reads
-use Rattle.emission.proofs.emit_call_statement.Lts as lts
-use Rattle.copying.proofs.renumber.Reads as renumber-reads
-use Rattle.emission.proofs.statements_of.Reads as statements-of-reads
-use Rattle.emission.proofs.temporaries_of.Reads as temporaries-of-reads
-use Rattle.masking.proofs.emit_call.Reads as emit-call-reads
 
 pub emit-call-statement-spec : {M : Type 1} → statement M
 emit-call-statement-spec = tie.close (tie.spec
-    (λ c. search needs)  -- mul-w
-    (λ c. search needs)  -- shared-slice-read-w
-    (λ c. search needs)  -- cast-i
-    (λ c. search needs)  -- mul-count
-    (λ c. omega (arith, call-is _ _ _ _ _ (c .before .before .before .before .before .before .before .before .pre .0 .3) (c .before .before .before .before .before .before .before .before .pre .1) .0))  -- shared-slice-read-count
-    (λ c. search needs)  -- mul-guarded
-    (λ c. omega (arith, call-is _ _ _ _ _ (c .before .before .before .before .before .before .before .before .before .pre .0 .3) (c .before .before .before .before .before .before .before .before .before .pre .1) .0))  -- shared-slice-read-guarded
-    (λ c κs. search needs)  -- renumber-requires
-    (λ c. search needs)  -- add-emit-call
-    (λ c. search needs)  -- add-emit-call-2
-    (λ c. search needs)  -- sub-emit-call
-    (λ c κs. (search needs, search needs, search needs, search needs, search needs, search needs, call-is _ _ _ _ _ (c .before .before .before .before .before .before .before .before .before .before .before .pre .0 .3) (c .before .before .before .before .before .before .before .before .before .before .before .pre .1) .1))  -- emit-call-requires
-    (λ c κs. search needs)  -- statements-of-requires
-    (λ c κs. search needs)  -- temporaries-of-requires
-    (λ c. search needs)  -- add-t29
-    (λ c. search needs)  -- add-t32
+    (λ c. search needs) (λ c. search needs) (λ c κs. search needs)  -- mul-w, shared-slice-read-w, called-requires
+    -- is-guarded-requires
+    (λ c κs. let args· = c .before .before .before .before .args in let pre· = c .before .before .before .before .pre in
+    called-listed (args· .scope) (args· .cursor) _ _ _ (pre· .0 .read) (pre· .2) _ (c .called .ensures .0) _ (pre· .1 .listed))
+    (λ c κs. search needs) (λ c κs. search needs) (λ c κs. search needs)  -- parameters-requires, result-requires, renumber-requires
+    (λ c κs. search needs) (λ c. search needs) (λ c. search needs)  -- act-at-requires, add-emit-call, sub-emit-call
+    -- emit-call-requires
+    (λ c κs. (
+      c .before .act-at .ensures .1,
+      search needs,
+      search needs,
+      search needs,
+      search needs,
+      values-read (c .before .before
+          .before .before .before .before .before .before .before .before .args .scope) (c .before .before .before .before .before
+          .before .before .before .before .before .args .cursor) _ _ _ (c .before .before .before .before .before .before .before
+          .before .before .before .pre .0 .read) (c .before .before .before .before .before .before .before .before .before .before
+          .pre .2) _ (c .before .before .before .before .before .before .called .ensures .0) _ (c .before .before .before .before
+          .parameters .ensures),
+    ))
+    (λ c κs. search needs) (λ c κs. search needs)  -- statements-of-requires, temporaries-of-requires
+    -- add-t21
+    (λ c. omega (
+      arith,
+      c .before .before .before .before .before .before .before .before .before .before .before .before .before
+          .before .before .before .before .before .pre .1,
+    ))
+    -- add-t22
+    (λ c. omega (
+      arith,
+      c .before .before .before .before .before .before .before .before .before .before .before .before .before
+          .before .before .before .before .before .before .pre .1,
+    ))
     (λ c. search needs)  -- same-length
-    (λ c. (simple-call _ _ _ _ _ _ _ _ _ _ _ _ _ _ _ _ _ (c .before .before .before .before .before .before .before .before .before .before .before .before .before .before .before .before .pre .0 .3) _ _ _ _ _ _ (c .before .before .before .before .before .before .before .before .before .before .before .before .before .before .before .before .pre .1) refl (c .before .before .before .before .before .before .renumber .ensures .0) (c .before .statements-of .ensures .0) (c .temporaries-of .ensures .0) (c .before .before .before .before .emit-call .ensures .0), (search needs, search needs, search needs, search needs)))  -- returns
+    -- returns
+    (λ c. let args· = c .before .before .before .before .before .before .before .before .before .before .before .before .before
+    .before .before .before .before .before .before .args in let pre· = c .before .before .before .before .before .before
+    .before .before .before .before .before .before .before .before .before .before .before .before .before .pre in let
+    statements-of· = c .before .before .before .statements-of in let emit-call· = c .before .before .before .before .before
+    .before .before .before .emit-call in (
+      (λ types. simple-call (args· .scope) (args· .cursor) _ _ _ (pre· .0 .read) (pre· .2)
+          _ (c .before .before .before .before .before .before .before .before .before .before .before .before .before .before .before
+          .called .ensures .0) _ _ types _ _ _ _ _ _ _ _ _ _ (c .before .before .before .before .before .before .before .before
+          .before .before .before .before .before .before .is-guarded .ensures) (c .before .before .before .before .before .before
+          .before .before .before .before .before .before .before .parameters .ensures) (c .before .before .before .before .before
+          .before .before .before .before .before .before .before .result .ensures .0) (c .before .before .before .before .before
+          .before .before .before .before .before .before .renumber .ensures .0) (statements-of· .ensures .0) (c .before .before
+          .temporaries-of .ensures .0) (c .before .before .before .before .before .before .before .before .before .before .act-at
+          .ensures .0) (emit-call· .ensures .0)),
+      record {
+        onward = omega (arith, emit-call· .ensures);
+        within = emit-call· .ensures
+            .2;
+        statements = omega (arith, emit-call· .ensures, statements-of· .ensures);
+        taken = omega (
+          arith,
+          emit-call· .ensures,
+          c
+              .before .before .temporaries-of .ensures,
+        );
+      },
+    ))
     )

@@ -1,17 +1,17 @@
--- `cell_at`: each need is answered by the rule for that way out, with the facts that the code has there. Assumes nothing.
-use Rattle.evaluator.proofs.Leaves.{cell·rules}
+-- `evaluator::cell_at` meets its contract. Assumes nothing.
+use Rattle.evaluator.proofs.Leaves.{cell-stop, cell-got}
 use borrow.Author.Needs.{needs}
 use Rattle.evaluator.proofs.cell_at.Statement.{statement}
 use Rattle.evaluator.proofs.cell_at.Tie as tie
 
 pub cell-at-spec : {M : Type 1} → statement M
 cell-at-spec = tie.close (tie.spec
-    (λ c κs. search needs)  -- index-at-requires
-    (λ c. search needs)  -- enum-known-number
-    (λ c. search needs)  -- enum-known-i
-    (λ c κs. search needs)  -- element-requires
+    (λ c κs. search needs) (λ c. search needs) (λ c. search needs)  -- index-at-requires, enum-known-r, enum-told
     (λ c. search needs)  -- same-length
-    (λ c. search (cell·rules, needs))  -- returns
-    (λ c. search needs)  -- same-length-2
-    (λ c. search (cell·rules, needs))  -- returns-2
+    -- returns
+    (λ c. cell-stop _ _ _ _ _ _ _ _ _ _ (c .before .before .before .before .index-at .ensures) _ _ _ (c .enum-told .given .1))
+    (λ c κs. search needs) (λ c κs. search needs) (λ c. search needs)  -- wide-requires, element-requires, same-length-2
+    -- returns-2
+    (λ c. cell-got _ _ _ _ _ _ _ _ _ _ (c .before .before .before .before .before .before .before .before .index-at .ensures) _ _ _
+    _ _ (c .before .before .before .before .r .given .1) (c .before .wide .ensures .0) (c .element .ensures))
     )

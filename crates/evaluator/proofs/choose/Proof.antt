@@ -1,4 +1,4 @@
--- `choose`: each need is answered by the rule for that way out, with the facts that the code has there. Assumes nothing.
+-- `evaluator::choose` meets its contract. Assumes nothing.
 use Rattle.evaluator.proofs.Leaves.{choose-zero, choose-other}
 use borrow.Author.Needs.{needs}
 use Rattle.evaluator.proofs.choose.Statement.{statement}

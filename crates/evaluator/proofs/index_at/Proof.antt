@@ -1,20 +1,34 @@
--- `index_at`: each need is answered by the rule for that way out, with the facts that the code has there. Assumes nothing.
-use Rattle.evaluator.proofs.Leaves.{index·rules}
+-- `evaluator::index_at` meets its contract. Assumes nothing.
+use native.Mathlib.Omega.{arith}
+use Rattle.evaluator.proofs.Leaves.{index-full, index-fits, index-in, index-out}
 use borrow.Author.Needs.{needs}
 use Rattle.evaluator.proofs.index_at.Statement.{statement}
 use Rattle.evaluator.proofs.index_at.Tie as tie
 
 pub index-at-spec : {M : Type 1} → statement M
 index-at-spec = tie.close (tie.spec
-    (λ c κs. search needs)  -- note-requires
-    (λ c. search needs)  -- enum-known-number
-    (λ c. search needs)  -- enum-known-i
-    (λ c κs. search needs)  -- entry-requires
-    (λ c. search needs)  -- add-t22
+    (λ c κs. search needs) (λ c. search needs) (λ c. search needs)  -- note-requires, enum-known-r, enum-told
     (λ c. search needs)  -- same-length
-    (λ c. search (index·rules, needs))  -- returns
+    -- returns
+    (λ c. index-full _ _ _ _ _ _ _ _ _ (c .before .before .before .before .note .ensures) _ _ _ (c .enum-told .given .1))
+    (λ c κs. search needs) (λ c κs. search needs) (λ c κs. search needs)  -- array-requires, array-length-requires, base-requires
+    -- add-t18
+    (λ c. omega (
+      arith,
+      index-fits _ _ _ _ _ _ _ _ _ (c .before .before .before .before .before .before .before .before .before
+          .note .ensures) _ _ _ (c .before .before .before .before .before .r .given .1) _ _ (c .before .before .before .array
+          .ensures) (c .before .before .array-length .ensures .0) (c .before .before .before .before .before .before .before .before
+          .before .before .before .before .pre .0) (c .before .if1 .taken) _ (c .base .ensures) (c .before .before .array-length
+          .ensures .1),
+    ))
     (λ c. search needs)  -- same-length-2
-    (λ c. search (index·rules, needs))  -- returns-2
+    -- returns-2
+    (λ c. index-in _ _ _ _ _ _ _ _ _ (c .before .before .before .before .before .before .before .before .before .note .ensures) _ _
+    _ (c .before .before .before .before .before .r .given .1) _ _ (c .before .before .before .array .ensures) (c .before
+    .before .array-length .ensures .0) _ (c .base .ensures) (c .before .if1 .taken))
     (λ c. search needs)  -- same-length-3
-    (λ c. search (index·rules, needs))  -- returns-3
+    -- returns-3
+    (λ c. index-out _ _ _ _ _ _ _ _ _ (c .before .before .before .before .before .before .before .before .note .ensures) _ _ _ (c
+    .before .before .before .before .r .given .1) _ _ (c .before .before .array .ensures) (c .before .array-length .ensures .0)
+    (c .if1 .left))
     )

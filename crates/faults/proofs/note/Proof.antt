@@ -1,3 +1,4 @@
+-- `faults::note` meets its contract. Assumes nothing.
 use borrow.Author.Needs.{needs}
 use Rattle.faults.proofs.Rules.{note·rules}
 use Rattle.faults.proofs.note.Statement.{statement}

@@ -1,3 +1,4 @@
+-- `printing::copy` meets its contract. Assumes nothing.
 use mathlib.Core.Path.{_≡_, refl}
 use Prim.Native.Nat.{_-_, _≤_}
 use native.Mathlib.Omega.{arith}
@@ -7,8 +8,6 @@ use Rattle.printing.proofs.DigitRules.{copy-more, copied}
 use borrow.Author.Needs.{needs}
 use Rattle.printing.proofs.copy.Statement.{statement}
 use Rattle.printing.proofs.copy.Tie as tie
-use Rattle.printing.proofs.copy.Reads as reads
-use Rattle.printing.proofs.copy.Lts as lts
 
 abbrev Inv-loop : tie.InvT-loop
 Inv-loop digits text₀ at i₀ text i = (i ≤ length digits) × (length text ≡ length text₀) × (text ≡ paste text₀ at digits i)
@@ -24,7 +23,12 @@ copy-spec = tie.close (tie.spec Inv-loop μ-loop
     (λ c. search needs)  -- slice-write-text
     (λ c. search needs)  -- add-i
     (λ c. search needs)  -- loop-less
-    (λ c. (omega arith, search needs, copy-more (c .before .before .before .args .text .now) (c .before .before .before .args .digits .now) (c .before .before .before .args .at) (c .before .before .loop .i) (c .before .before .loop .text) (omega arith) (omega arith) (c .before .before .loop .inv .2)))  -- loop-again
+    -- loop-again
+    (λ c. let args· = c .before .before .before .args in let loop· = c .before .before .loop in (omega arith, search needs,
+        copy-more (args· .text .now) (args· .digits .now) (args· .at) (loop· .i) (loop· .text) (omega arith) (omega arith)
+        (loop· .inv .2)))
     (λ c. search needs)  -- same-length
-    (λ c. copied (c .before .before .args .text .now) (c .before .before .args .digits .now) (c .before .before .args .at) (c .before .loop .i) (c .before .loop .text) (omega arith) (c .before .loop .inv .2))  -- returns
+    -- returns
+    (λ c. let args· = c .before .before .args in let loop· = c .before .loop in copied (args· .text .now) (args· .digits .now)
+        (args· .at) (loop· .i) (loop· .text) (omega arith) (loop· .inv .2))
     )

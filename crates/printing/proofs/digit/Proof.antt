@@ -1,9 +1,8 @@
+-- `printing::digit` meets its contract. Assumes nothing.
 use Rattle.printing.proofs.DigitRules.{low-digit, high-digit}
 use borrow.Author.Needs.{needs}
 use Rattle.printing.proofs.digit.Statement.{statement}
 use Rattle.printing.proofs.digit.Tie as tie
-use Rattle.printing.proofs.digit.Reads as reads
-use Rattle.printing.proofs.digit.Lts as lts
 
 pub digit-spec : {M : Type 1} → statement M
 digit-spec = tie.close (tie.spec

@@ -1,3 +1,4 @@
+-- `printing::put_listing` meets its contract. Assumes nothing.
 use mathlib.Core.Path.{_≡_, refl}
 use Prim.Native.Nat.{_-_, _*_, _≤_}
 use native.Mathlib.Omega.{arith}
@@ -8,13 +9,10 @@ use Rattle.printing.proofs.LineRules.{line-more, lines-whole}
 use borrow.Author.Needs.{needs}
 use Rattle.printing.proofs.put_listing.Statement.{statement}
 use Rattle.printing.proofs.put_listing.Tie as tie
-use Rattle.printing.proofs.put_listing.Reads as reads
-use Rattle.printing.proofs.put_listing.Lts as lts
-use Rattle.printing.proofs.line_byte.Reads as line-byte-reads
-use Rattle.words.proofs.word.Reads as word-reads
 
 abbrev Inv-loop : tie.InvT-loop
-Inv-loop bytes n text₀ end j₀ text j = (j ≤ 9 * n) × (length text ≡ length text₀) × (take j text ≡ take j (listing (take n (wordsOf bytes))))
+Inv-loop bytes n text₀ end j₀ text j = (j ≤ 9 * n) × (length text ≡ length text₀) × (take j text ≡ take j (listing (take n
+    (wordsOf bytes))))
 
 abbrev μ-loop : tie.MeasureT-loop
 μ-loop bytes n text₀ end j₀ text j = 9 * n - j
@@ -28,7 +26,14 @@ put-listing-spec = tie.close (tie.spec Inv-loop μ-loop
     (λ c. search needs)  -- slice-write-text
     (λ c. search needs)  -- add-j
     (λ c. search needs)  -- loop-less
-    (λ c. (omega arith, search needs, line-more (c .before .before .before .before .before .before .args .bytes .now) (c .before .before .before .before .before .before .args .n) (c .before .before .before .before .before .before .pre .1) (c .before .before .before .loop .text) (c .before .before .before .loop .j) _ _ (omega arith) (omega arith) (c .before .word .ensures) (c .line-byte .ensures) (c .before .before .before .loop .inv .2)))  -- loop-again
+    -- loop-again
+    (λ c. let args· = c .before .before .before .before .before .before .args in let loop· = c .before .before .before .loop in
+        (omega arith, search needs, line-more (args· .bytes .now) (args· .n) (c .before .before .before .before .before .before
+        .pre .1) (loop· .text) (loop· .j) _ _ (omega arith) (omega arith) (c .before .word .ensures) (c .line-byte .ensures)
+        (loop· .inv .2)))
     (λ c. search needs)  -- same-length
-    (λ c. (omega arith, lines-whole (c .before .before .before .before .args .bytes .now) (c .before .before .before .before .args .n) (c .before .before .before .before .pre .1) (c .before .loop .text) (c .before .loop .j) (omega arith) (c .before .loop .inv .0) (c .before .loop .inv .2)))  -- returns
+    -- returns
+    (λ c. let args· = c .before .before .before .before .args in let loop· = c .before .loop in (omega arith, lines-whole (args·
+        .bytes .now) (args· .n) (c .before .before .before .before .pre .1) (loop· .text) (loop· .j) (omega arith) (loop· .inv
+        .0) (loop· .inv .2)))
     )

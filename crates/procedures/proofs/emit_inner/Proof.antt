@@ -1,33 +1,135 @@
-use Prim.Native.Nat.{ℕ, _+_}
+-- `procedures::emit_inner` meets its contract. Assumes nothing.
 use native.Mathlib.Omega.{arith}
-use mathlib.Core.Path.{refl, ap}
-use Rattle.procedures.proofs.Whole.{inner-from}
+use Rattle.procedures.proofs.Whole.{types-few, parameters-within, source-body, source-short, inner-on}
 use borrow.Author.Needs.{needs}
 use Rattle.procedures.proofs.emit_inner.Statement.{statement}
 use Rattle.procedures.proofs.emit_inner.Tie as tie
-use Rattle.procedures.proofs.emit_inner.Reads as reads
-use Rattle.procedures.proofs.emit_inner.Lts as lts
-use Rattle.emission.proofs.emit_block.Reads as emit-block-reads
-use Rattle.procedures.proofs.deferred_of.Reads as deferred-of-reads
-use Rattle.procedures.proofs.emit_last.Reads as emit-last-reads
-use Rattle.procedures.proofs.emit_live.Reads as emit-live-reads
-use Rattle.procedures.proofs.first_moved.Reads as first-moved-reads
-use Rattle.procedures.proofs.guards_of.Reads as guards-of-reads
-use Rattle.procedures.proofs.opening_of.Reads as opening-of-reads
 
 pub emit-inner-spec : {M : Type 1} → statement M
 emit-inner-spec = tie.close (tie.spec
-    (λ c. search needs)  -- cast-size
+    -- narrow-requires
+    (λ c κs. omega (arith, types-few _ _ _ (c .before .before .before .args .source) (c .before .before .before .pre)))
     (λ c κs. search needs)  -- guards-of-requires
-    (λ c. search needs)  -- add-rv
-    (λ c κs. search needs)  -- first-moved-requires
-    (λ c κs. search needs)  -- deferred-of-requires
-    (λ c. search needs)  -- add-k
+    -- add-rv
+    (λ c. omega (
+      arith,
+      c .before .narrow .ensures,
+      types-few _ _ _ (c .before .before .before .before .before .args .source) (c
+          .before .before .before .before .before .pre),
+      c .guards-of .ensures,
+    ))
     (λ c κs. search needs)  -- opening-of-requires
-    (λ c κs. search needs)  -- emit-live-requires
-    (λ c κs. (c .before .before .before .before .before .before .before .before .before .before .before .before .before .before .before .pre .0, (search needs, search needs, search needs, search needs, search needs, search needs)))  -- emit-block-requires
-    (λ c κs. search needs)  -- emit-last-requires
-    (λ c. omega (arith, c .before .before .before .before .before .before .before .emit-block .ensures .1, c .before .before .before .before .before .before .before .before .before .before .before .before .before .opening-of .ensures .1, c .before .before .before .before .before .before .before .before .before .before .before .before .before .before .before .before .before .before .before .before .before .before .before .pre .4))  -- add-t25
+    -- emit-live-requires
+    (λ c κs. omega (
+      arith,
+      c .before .before .before .narrow .ensures,
+      types-few _ _ _ (c .before .before .before .before .before
+          .before .before .args .source) (c .before .before .before .before .before .before .before .pre),
+      c .before .before
+          .guards-of .ensures,
+    ))
+    (λ c κs. search needs) (λ c κs. search needs)  -- first-moved-requires, deferred-of-requires
+    -- add-t19
+    (λ c. omega (
+      arith,
+      c .before .before .before .before .before .before .before .before .narrow .ensures,
+      types-few _ _ _ (c
+          .before .before .before .before .before .before .before .before .before .before .before .before .args .source) (c .before
+          .before .before .before .before .before .before .before .before .before .before .before .pre),
+      c .before .before .before
+          .before .before .before .before .guards-of .ensures,
+      c .deferred-of .ensures,
+    ))
+    (λ c κs. search needs)  -- largest-level-requires
+    -- emit-block-requires
+    (λ c κs. let args· = c .before .before .before .before .before .before .before .before .before .before .before .before .before
+    .before .args in let pre· = c .before .before .before .before .before .before .before .before .before .before .before
+    .before .before .before .pre in let narrow· = c .before .before .before .before .before .before .before .before .before
+    .before .narrow in let guards-of· = c .before .before .before .before .before .before .before .before .before .guards-of in (
+      source-body _ _ _ (args· .source) (pre·) _ (c .largest-level .ensures),
+      record {
+        listed = pre· .listed;
+        short =
+            source-short _ _ _ (args· .source) (pre·);
+        few-statements = omega (
+          arith,
+          c .before .before .before .before .before .before
+              .before .before .opening-of .ensures,
+        );
+        few-temporaries = omega (
+          arith,
+          narrow· .ensures,
+          types-few _ _ _ (args· .source)
+              (pre·),
+          guards-of· .ensures,
+          c .before .before .deferred-of .ensures,
+        );
+        low-arm = omega (
+          arith,
+          types-few _ _ _ (args·
+              .source) (pre·),
+          parameters-within _ _ _ (args· .source) (pre·),
+        );
+        low-rv = omega (
+          arith,
+          narrow· .ensures,
+          types-few _ _ _
+              (args· .source) (pre·),
+          guards-of· .ensures,
+        );
+      },
+    ))
+    -- emit-last-requires
+    (λ c κs. omega (
+      arith,
+      c .before .before .before .before .before .before .before .before .before .before .before .before .before
+          .before .narrow .ensures,
+      types-few _ _ _ (c .before .before .before .before .before .before .before .before .before .before
+          .before .before .before .before .before .before .before .before .args .source) (c .before .before .before .before .before
+          .before .before .before .before .before .before .before .before .before .before .before .before .before .pre),
+      c .before
+          .before .before .before .before .before .before .before .before .before .before .before .before .guards-of .ensures,
+    ))
+    -- add-t19-2
+    (λ c. omega (
+      arith,
+      c .before .before .before .before .before .before .before .emit-block .ensures .1,
+      c .before .before .before
+          .before .before .before .before .before .before .before .before .before .before .before .before .before .opening-of
+          .ensures,
+      source-short _ _ _ (c .before .before .before .before .before .before .before .before .before .before .before
+          .before .before .before .before .before .before .before .before .before .before .before .args .source) (c .before .before
+          .before .before .before .before .before .before .before .before .before .before .before .before .before .before .before
+          .before .before .before .before .before .pre),
+    ))
     (λ c. search needs)  -- same-length
-    (λ c. (inner-from _ _ _ _ _ _ _ _ (c .before .before .before .before .before .before .before .before .before .before .before .before .before .before .before .before .before .before .before .before .before .before .before .pre .0 .3) _ (c .before .before .before .before .before .before .before .before .before .before .before .before .before .before .before .before .before .before .before .before .before .before .before .pre .3) _ _ _ _ _ _ _ _ _ _ (c .before .before .before .before .before .before .before .before .before .before .before .before .before .before .before .before .guards-of .ensures .0) (c .before .before .before .before .before .before .before .before .before .before .before .before .before .before .before .first-moved .ensures) (c .before .before .before .before .before .before .before .before .before .before .before .before .before .before .deferred-of .ensures .0) (c .before .before .before .before .before .before .before .before .before .before .before .before .before .opening-of .ensures .0) (c .before .before .before .before .before .before .before .before .before .before .before .emit-live .ensures) (c .before .before .before .before .before .before .before .emit-block .ensures .0) (c .before .before .before .emit-last .ensures), omega (arith, c .before .before .before .before .before .before .before .emit-block .ensures .1, c .before .before .before .before .before .before .before .before .before .before .before .before .before .opening-of .ensures .1, c .before .before .before .before .before .before .before .before .before .before .before .before .before .before .before .before .before .before .before .before .before .before .before .pre .4), omega (arith, c .before .before .before .before .before .before .before .emit-block .ensures .1, c .before .before .before .before .before .before .before .before .before .before .before .before .before .before .deferred-of .ensures .1, c .before .before .before .before .before .before .before .before .before .before .before .before .before .before .before .before .guards-of .ensures .1, c .before .before .before .before .before .before .before .before .before .before .before .before .before .before .before .before .before .before .before .before .before .before .before .pre .4, c .before .before .before .before .before .before .before .before .before .before .before .before .before .before .before .before .before .before .before .before .before .before .before .pre .5)))  -- returns
+    -- returns
+    (λ c. let args· = c .before .before .before .before .before .before .before .before .before .before .before .before .before
+    .before .before .before .before .before .before .before .before .before .args in let pre· = c .before .before .before
+    .before .before .before .before .before .before .before .before .before .before .before .before .before .before .before
+    .before .before .before .before .pre in let narrow· = c .before .before .before .before .before .before .before .before
+    .before .before .before .before .before .before .before .before .before .before .narrow in let guards-of· = c .before
+    .before .before .before .before .before .before .before .before .before .before .before .before .before .before .before
+    .before .guards-of in let deferred-of· = c .before .before .before .before .before .before .before .before .before .before
+    .deferred-of in let opening-of· = c .before .before .before .before .before .before .before .before .before .before .before
+    .before .before .before .before .before .opening-of in let emit-block· = c .before .before .before .before .before .before
+    .before .emit-block in (
+      inner-on _ _ _ (args· .source) (pre·) _ _ _ _ _ _ _ _ _ _ _ _ _ _ (c .before .before .before .before
+          .before .before .before .before .largest-level .ensures) (narrow· .ensures) (guards-of· .ensures .0) (deferred-of· .ensures
+          .0) (c .before .before .before .before .before .before .before .before .before .before .before .first-moved .ensures)
+          (opening-of· .ensures .0) (c .before .before .before .before .before .before .before .before .before .before .before .before
+          .before .before .emit-live .ensures) (emit-block· .ensures .0) (c .before .before .before .emit-last .ensures),
+      omega
+          (arith, emit-block· .ensures .1, opening-of· .ensures, source-short _ _ _ (args· .source) (pre·)),
+      omega (
+        arith,
+        emit-block·
+            .ensures .1,
+        narrow· .ensures,
+        types-few _ _ _ (args· .source) (pre·),
+        guards-of· .ensures,
+        deferred-of· .ensures,
+        source-short _ _ _ (args· .source) (pre·),
+      ),
+    ))
     )

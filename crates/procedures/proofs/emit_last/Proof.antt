@@ -1,16 +1,12 @@
-use Rattle.procedures.proofs.Words.{chosen-two, chosen-none}
+-- `procedures::emit_last` meets its contract. Assumes nothing.
+use Rattle.procedures.proofs.Words.{last-on, chosen-none}
 use borrow.Author.Needs.{needs}
 use Rattle.procedures.proofs.emit_last.Statement.{statement}
 use Rattle.procedures.proofs.emit_last.Tie as tie
-use Rattle.procedures.proofs.emit_last.Reads as reads
-use Rattle.procedures.proofs.emit_last.Lts as lts
-use Rattle.masking.proofs.put_two.Reads as put-two-reads
 
 pub emit-last-spec : {M : Type 1} → statement M
 emit-last-spec = tie.close (tie.spec
-    (λ c. search needs)  -- add-put-two
-    (λ c κs. search needs)  -- put-two-requires
-    (λ c. search needs)  -- same-length
-    (λ c. search chosen-two)  -- returns
+    (λ c κs. search needs) (λ c κs. search needs) (λ c. search needs)  -- word-with-requires, put-two-requires, same-length
+    (λ c. search last-on)  -- returns
     (λ c. search chosen-none)  -- returns-2
     )

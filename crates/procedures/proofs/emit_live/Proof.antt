@@ -1,17 +1,13 @@
-use Rattle.procedures.proofs.Words.{chosen-two, chosen-none}
+-- `procedures::emit_live` meets its contract. Assumes nothing.
+use Rattle.procedures.proofs.Words.{live-on, chosen-none}
 use borrow.Author.Needs.{needs}
 use Rattle.procedures.proofs.emit_live.Statement.{statement}
 use Rattle.procedures.proofs.emit_live.Tie as tie
-use Rattle.procedures.proofs.emit_live.Reads as reads
-use Rattle.procedures.proofs.emit_live.Lts as lts
-use Rattle.masking.proofs.put_two.Reads as put-two-reads
 
 pub emit-live-spec : {M : Type 1} → statement M
 emit-live-spec = tie.close (tie.spec
-    (λ c. search needs)  -- add-put-two
-    (λ c. search needs)  -- add-put-two-2
-    (λ c κs. search needs)  -- put-two-requires
-    (λ c. search needs)  -- same-length
-    (λ c. search chosen-two)  -- returns
+    (λ c. search needs) (λ c κs. search needs)  -- add-statement-with, statement-with-requires
+    (λ c κs. search needs) (λ c. search needs)  -- put-two-requires, same-length
+    (λ c. search live-on)  -- returns
     (λ c. search chosen-none)  -- returns-2
     )

@@ -1,28 +1,40 @@
+-- `procedures::emit_procedure` meets its contract. Assumes nothing.
 use native.Mathlib.Omega.{arith}
-use mathlib.Core.Path.{sym, ap}
-use Rattle.procedures.proofs.Whole.{procedure-on, rc-is}
+use Rattle.procedures.proofs.Whole.{locals-left, few-parameters, procedure-on}
 use borrow.Author.Needs.{needs}
 use Rattle.procedures.proofs.emit_procedure.Statement.{statement}
 use Rattle.procedures.proofs.emit_procedure.Tie as tie
-use Rattle.procedures.proofs.emit_procedure.Reads as reads
-use Rattle.procedures.proofs.emit_procedure.Lts as lts
-use Rattle.contexts.proofs.rc_block.Reads as rc-block-reads
-use Rattle.masking.proofs.put_two.Reads as put-two-reads
-use Rattle.procedures.proofs.emit_parts.Reads as emit-parts-reads
-use Rattle.procedures.proofs.guards_of.Reads as guards-of-reads
-use Rattle.tape.proofs.patch.Reads as patch-reads
 
 pub emit-procedure-spec : {M : Type 1} → statement M
 emit-procedure-spec = tie.close (tie.spec
-    (λ c κs. c .before .before .before .before .before .before .pre .0)  -- rc-block-requires
+    (λ c κs. c .before .before .before .pre)  -- describe-requires
     (λ c κs. search needs)  -- put-two-requires
-    (λ c κs. (c .before .before .before .before .before .before .before .before .before .before .before .before .pre .0, c .before .before .before .before .before .before .before .before .before .before .before .before .pre .1, c .before .before .before .before .before .before .before .before .before .before .before .before .pre .2, rc-is _ _ _ _ _ (c .before .before .before .before .before .rc-block .ensures), c .before .before .before .before .before .before .before .before .before .before .before .before .pre .3, c .before .before .before .before .before .before .before .before .before .before .before .before .pre .4))  -- emit-parts-requires
+    (λ c κs. c .before .before .before .before .before .describe .ensures .0)  -- emit-parts-requires
     (λ c κs. search needs)  -- guards-of-requires
-    (λ c. search needs)  -- add-s
-    (λ c. search needs)  -- mul-patch
-    (λ c. search needs)  -- add-patch
-    (λ c. search needs)  -- add-patch-2
-    (λ c κs. search needs)  -- patch-requires
-    (λ c. search needs)  -- same-length
-    (λ c. (procedure-on _ _ _ _ _ _ _ _ (c .before .before .before .before .before .before .before .before .before .before .before .before .before .before .before .before .before .before .before .before .pre .0 .3) _ _ _ _ _ _ (c .before .before .before .before .before .before .before .before .before .before .before .before .before .before .before .before .before .before .before .before .pre .2) (c .before .before .before .before .guards-of .ensures .0) (c .before .before .before .before .before .before .before .before .before .before .before .put-two .ensures) (c .before .before .before .before .before .before .before .emit-parts .ensures .0) (c .before .before .patch .ensures), search needs))  -- returns
+    -- add-parameters
+    (λ c. let describe· = c .before .before .before .before .before .before .before .before .before .before .describe in omega
+    (arith, few-parameters _ _ _ (describe· .result) (describe· .ensures .0), c .before .guards-of .ensures))
+    -- sub-locals
+    (λ c. let describe· = c .before .before .before .before .before .before .before .before .before .before .before .describe in
+    locals-left _ _ _ (describe· .result) (describe· .ensures .0) _ (c .before .before .guards-of .ensures .0) _ _ _ _ (c
+    .before .before .before .before .before .emit-parts .ensures .0))
+    -- procedure-with-requires
+    (λ c κs. let describe· = c .before .before .before .before .before .before .before .before .before .before .before .before
+    .describe in (
+      omega (
+        arith,
+        few-parameters _ _ _ (describe· .result) (describe· .ensures .0),
+        c .before .before .before
+            .guards-of .ensures,
+      ),
+      omega (arith, c .before .before .before .before .before .before .emit-parts .ensures .1),
+    ))
+    (λ c κs. search needs) (λ c. search needs)  -- patch-requires, same-length
+    -- returns
+    (λ c. let describe· = c .before .before .before .before .before .before .before .before .before .before .before .before .before
+    .before .before .before .describe in procedure-on _ _ _ (describe· .result) (describe· .ensures .0) _ (c .before .before
+    .before .before .before .before .before .guards-of .ensures .0) _ _ _ _ (c .before .before .before .before .before .before
+    .before .before .before .before .emit-parts .ensures .0) _ _ _ _ _ (describe· .ensures .1) (c .before .before .before
+    .before .before .before .before .before .before .before .before .before .before .before .put-two .ensures) (c .before
+    .before .before .procedure-with .ensures) (c .before .before .patch .ensures))
     )

@@ -1,21 +1,23 @@
-use mathlib.Core.List.{[]}
-use Rattle.ready.proofs.Rules.{judge-refused, judge-header, judge-accepted}
+-- `ready::judge` meets its contract. Assumes nothing.
+use Rattle.ready.proofs.Rules.{judge-refused, judge-arrays, judge-accepted}
 use borrow.Author.Needs.{needs}
 use Rattle.ready.proofs.judge.Statement.{statement}
 use Rattle.ready.proofs.judge.Tie as tie
-use Rattle.ready.proofs.judge.Reads as reads
-use Rattle.ready.proofs.judge.Lts as lts
-use Rattle.checker.proofs.check_with.Reads as check-with-reads
-use Rattle.ready.proofs.with_cells.Reads as with-cells-reads
 
 pub judge-spec : {M : Type 1} → statement M
 judge-spec = tie.close (tie.spec
-    (λ c κs. search needs)  -- check-with-requires
-    (λ c. search needs)  -- enum-known-verdict
-    (λ c. search needs)  -- enum-told
-    (λ c κs. judge-header _ _ (c .before .before .before .before .before .before .before .before .before .before .args .count) (c .before .before .before .before .check-with .result) (c .before .before .before .before .check-with .ensures .0) [] [] [] (c .enum-told .given .1))  -- with-cells-requires
+    (λ c κs. search needs) (λ c. search needs) (λ c. search needs)  -- check-with-requires, enum-known-number, enum-told
+    -- with-cells-requires
+    (λ c κs. let check-with· = c .before .before .before .before .before .check-with in judge-arrays _ _ (c .before .before .before
+        .before .before .before .before .before .before .before .args .count) _ (check-with· .ensures .0) (c .before .enum-told
+        .given .1) _ _ (check-with· .ensures .1))
     (λ c. search needs)  -- same-length
-    (λ c. judge-refused _ _ _ _ (c .before .before .before .before .before .check-with .ensures .0) _ _ _ _ _ (c .before .verdict .given .1))  -- returns
+    -- returns
+    (λ c. let check-with· = c .before .before .before .before .before .check-with in (judge-refused _ _ _ _ (check-with· .ensures
+        .0) _ _ (c .before .number .given .1), check-with· .ensures .1))
     (λ c. search needs)  -- same-length-2
-    (λ c. judge-accepted _ _ _ _ (c .before .before .before .before .before .check-with .ensures .0) _ _ _ (c .before .enum-told .given .1) (c .before .before .before .before .before .check-with .ensures .1) _ (c .with-cells .ensures))  -- returns-2
+    -- returns-2
+    (λ c. let check-with· = c .before .before .before .before .before .before .check-with in (judge-accepted _ _ _ _ (check-with·
+        .ensures .0) (c .before .before .enum-told .given .1) _ _ (check-with· .ensures .1) _ (c .with-cells .ensures), check-with·
+        .ensures .1))
     )

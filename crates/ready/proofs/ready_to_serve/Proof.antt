@@ -1,16 +1,17 @@
-use Rattle.ready.proofs.Rules.{serve-empty, serve-some}
-use borrow.Author.Needs.{needs}
+-- `ready::ready_to_serve` meets its contract. Assumes nothing.
+use mathlib.Core.Path.{_∙_, sym, ap}
+use Rattle.ready.specs.Prepared.{readied}
+use Rattle.ready.proofs.Rules.{empty-answer, empty-table, serve-some}
 use Rattle.ready.proofs.ready_to_serve.Statement.{statement}
 use Rattle.ready.proofs.ready_to_serve.Tie as tie
-use Rattle.ready.proofs.ready_to_serve.Reads as reads
-use Rattle.ready.proofs.ready_to_serve.Lts as lts
-use Rattle.ready.proofs.ready_to_load.Reads as ready-to-load-reads
 
 pub ready-to-serve-spec : {M : Type 1} → statement M
 ready-to-serve-spec = tie.close (tie.spec
-    (λ c. serve-empty _ _ _ _ _ _ (c .if1 .taken))  -- returns
-    (λ c κs. search needs)  -- ready-to-load-requires
-    (λ c. search needs)  -- same-length
-    (λ c. search needs)  -- same-length-2
-    (λ c. serve-some _ _ _ _ _ _ _ (c .before .before .before .before .before .before .before .before .before .if1 .left) (c .before .before .before .before .ready-to-load .ensures))  -- returns-2
+    -- returns
+    (λ c. let args· = c .before .before .args in (empty-answer (args· .image .now) (c .if1 .taken) (args· .count), empty-table
+        (args· .image .now) (c .if1 .taken) (args· .table .now) (c .before .before .pre)))
+    (λ c κs. (c .before .before .before .pre)) -- ready-to-load-requires
+    -- returns-2
+    (λ c. let args· = c .before .before .before .before .args in ((c .ready-to-load .ensures .0) ∙ ap readied (sym (serve-some
+        (args· .image .now) (c .before .before .if1 .left) (args· .count))), (c .ready-to-load .ensures .1)))
     )

@@ -1,11 +1,8 @@
+-- `tinesage::tinesage_compile` meets its contract. Assumes nothing.
 use Rattle.tinesage.proofs.ContractRules.{compile-fits, compile-put}
 use borrow.Author.Needs.{needs}
 use Rattle.tinesage.proofs.tinesage_compile.Statement.{statement}
 use Rattle.tinesage.proofs.tinesage_compile.Tie as tie
-use Rattle.tinesage.proofs.tinesage_compile.Reads as reads
-use Rattle.tinesage.proofs.tinesage_compile.Lts as lts
-use Rattle.answers.proofs.put_compiled.Reads as put-compiled-reads
-use Rattle.translation.proofs.compile_bytes.Reads as compile-bytes-reads
 
 pub tinesage-compile-spec : {M : Type 1} → statement M
 tinesage-compile-spec = tie.close (tie.spec
@@ -13,5 +10,7 @@ tinesage-compile-spec = tie.close (tie.spec
     (λ c κs. compile-fits _ _ _ _ (c .before .before .before .compile-bytes .ensures))  -- put-compiled-requires
     (λ c. search needs)  -- same-length
     (λ c. search needs)  -- same-length-2
-    (λ c. compile-put _ _ _ _ _ _ (c .before .before .before .before .before .before .compile-bytes .ensures) (c .before .before .put-compiled .ensures))  -- returns
+    -- returns
+    (λ c. compile-put _ _ _ _ _ _ (c .before .before .before .before .before .before .compile-bytes .ensures) (c .before .before
+        .put-compiled .ensures))
     )

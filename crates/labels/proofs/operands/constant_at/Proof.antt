@@ -6,6 +6,6 @@ use Rattle.labels.proofs.operands.constant_at.Tie as tie
 
 pub constant-at-spec : {M : Type 1} → statement M
 constant-at-spec = tie.close (tie.spec
-    (λ c κs. search needs)  -- word-at-requires
+    (λ c κs. search needs) (λ c κs. search needs)  -- element-requires, kind-requires
     (λ c. search (constant-here, needs))  -- returns
     )

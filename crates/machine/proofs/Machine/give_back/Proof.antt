@@ -1,17 +1,16 @@
+-- `machine::Machine::give_back` meets its contract. Assumes nothing.
 use mathlib.Core.Path.{_≡_}
 use native.Mathlib.Omega.{arith}
 use lib.ListN.{length}
 use borrow.Author.Needs.{needs}
 use Rattle.machine.proofs.Machine.give_back.Statement.{statement}
 use Rattle.machine.proofs.Machine.give_back.Tie as tie
-use Rattle.machine.proofs.Machine.give_back.Reads as reads
-use Rattle.machine.proofs.Machine.give_back.Lts as lts
-use Rattle.words.proofs.write_words.Reads as write-words-reads
 
 pub give-back-spec : {M : Type 1} → statement M
 give-back-spec = tie.close (tie.spec
     (λ c. search needs)  -- slice-aggregate-write-words
-    (λ c κs. let h : length (c .before .before .before .before .args .self .cells) ≡ 1024 = search needs in (omega arith, search needs))  -- write-words-requires
-    (λ c. search needs)  -- same-length
-    (λ c. search needs)  -- returns
+    -- write-words-requires
+    (λ c κs. let h : length (c .before .before .before .before .args .self .cells) ≡ 1024 = search needs in (omega arith, search
+        needs))
+    (λ c. search needs) (λ c. search needs)  -- same-length, returns
     )

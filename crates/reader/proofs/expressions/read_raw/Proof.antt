@@ -1,5 +1,4 @@
--- `reader::expressions::read_raw`: the raw constant is tested where its word stands.
--- Assumes nothing.
+-- `reader::expressions::read_raw` meets its contract. Assumes nothing.
 use Rattle.reader.proofs.ExpressionRules.{raw·rules}
 use borrow.Author.Needs.{needs}
 use Rattle.reader.proofs.expressions.read_raw.Statement.{statement}
@@ -7,9 +6,7 @@ use Rattle.reader.proofs.expressions.read_raw.Tie as tie
 
 pub read-raw-spec : {M : Type 1} → statement M
 read-raw-spec = tie.close (tie.spec
-    (λ c κs. search needs)  -- word-requires
-    (λ c. search needs)  -- enum-known-r
-    (λ c. search needs)  -- enum-told
+    (λ c κs. search needs) (λ c. search needs) (λ c. search needs)  -- word-requires, enum-known-r, enum-told
     (λ c. search (raw·rules, needs))  -- returns
     (λ c κs. search needs)  -- raw-word-requires
     (λ c. search (raw·rules, needs))  -- returns-2

@@ -1,25 +1,56 @@
+-- `serving::calls::call_with` meets its contract. Assumes nothing.
 use native.Mathlib.Omega.{arith}
-use Rattle.serving.proofs.CallsRules.{call-not, call-serves, call-done}
+use mathlib.Core.Path.{sym}
+use lib.Seq.{length-take-le}
+use Rattle.serving.proofs.Rules.{call-not, call-within, call-serves, call-done}
 use borrow.Author.Needs.{needs}
 use Rattle.serving.proofs.calls.call_with.Statement.{statement}
 use Rattle.serving.proofs.calls.call_with.Tie as tie
-use Rattle.serving.proofs.calls.call_with.Reads as reads
-use Rattle.serving.proofs.calls.call_with.Lts as lts
-use Rattle.ready.proofs.ready_to_serve.Reads as ready-to-serve-reads
-use Rattle.serving.proofs.calls.call_cells.Reads as call-cells-reads
 
 pub call-with-spec : {M : Type 1} → statement M
 call-with-spec = tie.close (tie.spec
-    (λ c κs. search needs)  -- ready-to-serve-requires
-    (λ c. search needs)  -- enum-known-r
-    (λ c. search needs)  -- enum-known-r-2
-    (λ c κs. call-serves _ (c .before .before .before .before .before .before .before .before .before .before .before .before .before .before .before .before .before .before .before .before .before .before .before .before .args .cells .now) _ _ _ _ (λ i. omega (arith, c .before .before .before .before .before .before .before .before .before .before .before .before .before .before .before .before .before .before .before .before .before .before .slice-known .given i)) _ (c .before .before .before .before .before .before .before .before .before .before .before .before .before .ready-to-serve .ensures) _ _ (c .before .before .before .before .before .before .before .r2 .given .1))  -- call-cells-requires
-    (λ c. search needs)  -- same-length
-    (λ c. search needs)  -- same-length-2
-    (λ c. call-not _ (c .before .before .before .before .before .before .before .before .before .before .before .before .before .before .before .before .before .before .args .cells .now) _ _ _ _ (λ i. omega (arith, c .before .before .before .before .before .before .before .before .before .before .before .before .before .before .before .before .slice-known .given i)) _ (c .before .before .before .before .before .before .before .ready-to-serve .ensures) _ _ (c .before .r .given .1) (c .before .before .before .before .before .before .before .before .before .before .before .before .before .before .before .before .before .before .args .f) _ (c .before .before .before .before .before .before .before .before .before .before .before .before .before .before .before .before .before .before .args .budget) _)  -- returns
-    (λ c. search needs)  -- same-length-3
-    (λ c. search needs)  -- same-length-4
-    (λ c. search needs)  -- same-length-5
-    (λ c. search needs)  -- same-length-6
-    (λ c. call-done _ (c .before .before .before .before .before .before .before .before .before .before .before .before .before .before .before .before .before .before .before .before .before .before .before .before .before .before .before .before .before .args .cells .now) _ _ _ _ (λ i. omega (arith, c .before .before .before .before .before .before .before .before .before .before .before .before .before .before .before .before .before .before .before .before .before .before .before .before .before .before .before .slice-known .given i)) _ (c .before .before .before .before .before .before .before .before .before .before .before .before .before .before .before .before .before .before .ready-to-serve .ensures) _ _ (c .before .before .before .before .before .before .before .before .before .before .before .before .r2 .given .1) _ _ _ _ (c .before .before .before .before .before .before .before .before .before .before .before .before .before .before .before .before .before .before .before .before .before .before .before .before .before .before .before .before .before .args .f) _ (c .before .before .before .before .before .before .before .before .before .before .before .before .before .before .before .before .before .before .before .before .before .before .before .before .before .before .before .before .before .args .budget) (c .before .before .before .before .call-cells .ensures))  -- returns-2
+    (λ c κs. search needs) -- prepare-to-serve-requires
+    (λ c. search needs) -- enum-known-number
+    (λ c. search needs) -- enum-known-own
+    -- slice-reshare-prefix-call-cells
+    (λ c. let args· = c .before .before .before .before .before .before .before .before .before .before .before .before .before
+        .before .before .before .before .args in call-within (args· .image .now) (args· .cells .now) _ _ _ _ (λ i. omega (arith,
+        (c .before .before .before .before .before .before .before .before .before .before .before .before .before .before
+        .before .slice-known .given) i)) _ (c .before .before .before .before .before .before .before .prepare-to-serve
+        .ensures) _ (c .before .own .given .1) (search needs))
+    -- slice-aggregate-call-cells
+    (λ c. let args· = c .before .before .before .before .before .before .before .before .before .before .before .before .before
+        .before .before .before .before .before .args in sym (length-take-le _ _ (call-within (args· .image .now) (args· .cells
+        .now) _ _ _ _ (λ i. omega (arith, (c .before .before .before .before .before .before .before .before .before .before
+        .before .before .before .before .before .before .slice-known .given) i)) _ (c .before .before .before .before .before
+        .before .before .before .prepare-to-serve .ensures) _ (c .before .before .own .given .1) (search needs))))
+    -- call-cells-requires
+    (λ c κs. let args· = c .before .before .before .before .before .before .before .before .before .before .before .before
+        .before .before .before .before .before .before .before .before .before .before .args in call-serves (args· .image .now)
+        (args· .cells .now) _ _ _ _ (λ i. omega (arith, (c .before .before .before .before .before .before .before .before
+        .before .before .before .before .before .before .before .before .before .before .before .before .slice-known .given) i))
+        _ (c .before .before .before .before .before .before .before .before .before .before .before .before .prepare-to-serve
+        .ensures) _ (c .before .before .before .before .before .before .own .given .1))
+    (λ c. search needs) -- same-length
+    (λ c. search needs) -- same-length-2
+    -- returns
+    (λ c. let args· = c .before .before .before .before .before .before .before .before .before .before .before .before .before
+        .before .before .before .before .args in call-not (args· .image .now) (args· .cells .now) (λ i. omega (arith, (c .before
+        .before .before .before .before .before .before .before .before .before .before .before .before .before .before
+        .slice-known .given) i)) _ _ _ (c .before .number .given .1) (c .before .before .before .before .before .before .before
+        .prepare-to-serve .ensures .answer) (args· .f) (args· .arguments .now) (args· .budget) (args· .trace .now))
+    (λ c. search needs) -- same-length-3
+    (λ c. search needs) -- same-length-4
+    (λ c. search needs) -- same-length-5
+    (λ c. search needs) -- same-length-6
+    -- returns-2
+    (λ c. let args· = c .before .before .before .before .before .before .before .before .before .before .before .before .before
+        .before .before .before .before .before .before .before .before .before .before .before .before .before .before .args in
+        call-done (args· .image .now) (args· .cells .now) _ _ _ _ (λ i. omega (arith, (c .before .before .before .before .before
+        .before .before .before .before .before .before .before .before .before .before .before .before .before .before .before
+        .before .before .before .before .before .slice-known .given) i)) _ (c .before .before .before .before .before .before
+        .before .before .before .before .before .before .before .before .before .before .before .prepare-to-serve .ensures) _ (c
+        .before .before .before .before .before .before .before .before .before .before .before .own .given .1) _ _ (args·
+        .trace .now) _ (args· .f) (args· .arguments .now) (args· .budget) (c .before .before .before .before .call-cells
+        .ensures))
     )

@@ -1,2 +1,0 @@
-pub mod CopyRules
-pub mod RunRules

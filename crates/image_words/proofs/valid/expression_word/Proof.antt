@@ -1,0 +1,14 @@
+-- `image_words::valid::expression_word` meets its contract. Assumes nothing.
+use Rattle.definitions.specs.Image.{expressionWord}
+use borrow.Author.Needs.{needs}
+use Rattle.image_words.proofs.valid.expression_word.Statement.{statement}
+use Rattle.image_words.proofs.valid.expression_word.Tie as tie
+
+returns : tie.Need-returns
+unfolding expressionWord
+returns c = search needs
+
+pub expression-word-spec : {M : Type 1} → statement M
+expression-word-spec = tie.close (tie.spec
+    returns  -- returns
+    )

@@ -1,2 +1,0 @@
-pub mod ArrayRules
-pub mod ProcedureRules

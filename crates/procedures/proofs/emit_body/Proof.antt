@@ -1,0 +1,19 @@
+-- `procedures::emit_body` meets its contract. Assumes nothing.
+use Rattle.procedures.proofs.Whole.{body-on}
+use borrow.Author.Needs.{needs}
+use Rattle.procedures.proofs.emit_body.Statement.{statement}
+use Rattle.procedures.proofs.emit_body.Tie as tie
+
+pub emit-body-spec : {M : Type 1} → statement M
+emit-body-spec = tie.close (tie.spec
+    (λ c κs. search needs)  -- put-requires
+    (λ c κs. c .before .before .before .before .before .before .before .before .pre)  -- emit-inner-requires
+    (λ c κs. search needs) (λ c κs. search needs) (λ c. search needs)  -- block-with-requires, patch-requires, same-length
+    -- returns
+    (λ c. let emit-inner· = c .before .before .before .before .before .before .before .emit-inner in (
+      body-on _ _ _ _ _ _ _ _ _ _ (c
+          .before .before .before .before .before .before .before .before .before .before .before .put .ensures) (emit-inner· .ensures
+          .0) (c .before .before .before .block-with .ensures) (c .before .before .patch .ensures),
+      emit-inner· .ensures .2,
+    ))
+    )

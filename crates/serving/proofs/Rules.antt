@@ -1,0 +1,174 @@
+-- Each way in which a request on lent bytes ends. Assumes nothing.
+use mathlib.Core.Path.{_≡_, refl, sym, ap, _∙_}
+use mathlib.Core.Bool.{Bool, true, false}
+use mathlib.Core.List.{List, _++_}
+use Prim.Native.Nat.{ℕ, _+_, _*_, _/_, _≤_, min}
+use native.Mathlib.Omega.{arith}
+use lib.ListN.{length, getD, take, drop, take-append-drop}
+use lib.Seq.{length-take-le, take-all}
+use Rattle.definitions.specs.Choice.{pick}
+use Rattle.definitions.specs.Bytes.{wordsOf, bytesOf, lent}
+use Rattle.definitions.specs.Image.{Image, baseOf}
+use Rattle.definitions.specs.Requests.{Served, Called, carriedOut, unready, readyToLoad, readyToServe, calledOn}
+use Rattle.definitions.specs.Host.{wholeWords, loadBytes, clearBytes, pokeBytes, peekBytes, callBytes}
+use Rattle.definitions.specs.declared.Answer.{Answer}
+use Rattle.definitions.specs.declared.Answer.the-variants.{Refused}
+use Rattle.laws.specs.ImageIn.{imageIn, length-limit}
+use Rattle.laws.specs.ReadImages.{open-image}
+use Rattle.words.proofs.Laws.{Bytes, length-wordsOf, lent-wordsOf}
+use Rattle.tables.specs.Table.{arraysIn}
+use Rattle.tables.specs.Looking.{image-short}
+use Rattle.requests.specs.Cells.{Fits, hasCellIn}
+use Rattle.requests.specs.OwnCells.{clearOn, pokeOn, peekOn}
+use Rattle.requests.specs.LentCells.{lent-front}
+use Rattle.requests.specs.Ready.{serve-read}
+use Rattle.requests.specs.ByteRequests.{afterwards, afterCall, load-refused, clear-refused, poke-refused, peek-refused, call-refused}
+use Rattle.requests.specs.ByteRequests.{load-ready, clear-ready, poke-ready, peek-ready, call-ready}
+use Rattle.checker.specs.Left.{known-left, ends-left, read-tree, known-filled}
+use Rattle.machine.specs.declared.Machine.{Machine}
+use Rattle.machine.specs.declared.Turn.{Turn}
+use Rattle.machine.specs.Turns.{held, Turned}
+use Rattle.machine.specs.Serving.{Serves, TurnedCall}
+use Rattle.ready.specs.declared.Ready.{Ready}
+use Rattle.ready.specs.declared.Ready.the-variants.{Cells, Unready}
+use Rattle.ready.specs.Prepared.{readied, readied-cells, readied-not, Prepared}
+use Rattle.ready.proofs.Rules.{left-table}
+use Rattle.serving.proofs.Own.{Own, serve-own}
+
+-- ---- a request that is refused
+
+module _ (image cells : List ℕ) (bytes : Bytes cells) (r : Ready) (k p : ℕ) (f : r ≡ Unready k p) where
+  pub load-not : r ≡ readied (readyToLoad (wholeWords image) (wordsOf image) (length cells / 4)) → (Refused k p, cells) ≡ loadBytes image cells
+  load-not e =
+      sym (load-refused cells bytes image k p
+      (ap (readyToLoad (wholeWords image) (wordsOf image)) (length-wordsOf cells)
+      ∙ readied-not (readyToLoad (wholeWords image) (wordsOf image) (length cells / 4)) r k p e f))
+
+  module _ (e : r ≡ readied (readyToServe (wholeWords image) (wordsOf image) (length cells / 4))) where
+    not-ready : readyToServe (wholeWords image) (wordsOf image) (length (wordsOf cells)) ≡ unready k p
+    not-ready =
+        ap (readyToServe (wholeWords image) (wordsOf image)) (length-wordsOf cells)
+        ∙ readied-not (readyToServe (wholeWords image) (wordsOf image) (length cells / 4)) r k p e f
+
+    pub clear-not : (Refused k p, cells) ≡ clearBytes image cells
+    clear-not = sym (clear-refused cells bytes image k p not-ready)
+
+    pub poke-not : (a i v : ℕ) → (Refused k p, cells) ≡ pokeBytes image cells a i v
+    poke-not a i v = sym (poke-refused cells bytes image k p not-ready a i v)
+
+    pub peek-not : (a i : ℕ) → (Refused k p, cells) ≡ peekBytes image cells a i
+    peek-not a i = sym (peek-refused cells bytes image k p not-ready a i)
+
+    pub call-not : (g : ℕ) (arguments : List ℕ) (budget : ℕ) (trace : List ℕ) → (Refused k p, cells, trace) ≡ callBytes image cells g arguments budget trace
+    call-not g arguments budget trace = sym (call-refused cells bytes image k p not-ready g arguments budget trace)
+
+-- ---- the machine's turn, whose cells go back
+
+-- cells that are given back as they were taken
+front-back : (cells : List ℕ) (own : ℕ) → Bytes cells → 4 * own ≤ length cells → bytesOf (take own (wordsOf cells)) ++ drop (4 * own) cells ≡ cells
+front-back cells own bytes h =
+    let long : length (take own (wordsOf cells)) ≡ own = length-take-le own (wordsOf cells) (rw length-wordsOf (omega arith)) in
+    sym (lent-front cells (take own (wordsOf cells)) own bytes long h)
+    ∙ ap (λ (x : List ℕ). lent cells x) (take-append-drop own (wordsOf cells))
+    ∙ lent-wordsOf cells bytes
+
+pub back-asks : (size own m t : ℕ) → m ≡ own → t ≡ m → own ≤ 1024 → 4 * own ≤ size → (t ≤ 1024) × (4 * t ≤ size)
+back-asks size own m t c same few enough = let n : t ≡ own = same ∙ c in rw n (few, enough)
+
+module _ (cells : List ℕ) (own : ℕ) (m : Machine) (c : m .count ≡ own) (t : Turn) (same : t .machine .count ≡ m .count) where
+  -- a request on the image's own cells that keeps their number
+  given-back : (s : Served) → _≡_ {A = Served} (t .answer, held (t .machine)) s → (r : Answer) (after : List ℕ) → r ≡ t .answer
+      → after ≡ bytesOf (held (t .machine)) ++ drop (4 * t .machine .count) cells → (r, after) ≡ afterwards cells own s
+  given-back s gives r after a e =
+      let n : t .machine .count ≡ own = same ∙ c in
+      let d : r ≡ s .0 = a ∙ ap (λ (x : Served). x .0) gives in
+      let h : held (t .machine) ≡ s .1 = ap (λ (x : Served). x .1) gives in
+      rw (e, d, h, n)
+
+module _ (image cells table : List ℕ) (bytes : Bytes cells) (own : ℕ) (m : Machine) (h : held m ≡ take own (wordsOf cells)) (c : m .count ≡ own)
+    (t : Turn) (r : Answer) (after : List ℕ) (a : r ≡ t .answer) (e : after ≡ bytesOf (held (t .machine)) ++ drop (4 * t .machine .count) cells) where
+  cleared : Turned m t (clearOn (m .count)) → (r, after) ≡ afterwards cells own (clearOn own)
+  cleared turned =
+      given-back cells own m c t (turned .same) (clearOn (m .count)) (turned .gives) r after a e ∙ ap (λ (k : ℕ). afterwards cells own (clearOn k)) c
+
+  pub load-done : Own image cells table (readyToLoad (wholeWords image) (wordsOf image)) own → Turned m t (clearOn (m .count)) → (r, after) ≡ loadBytes image cells
+  load-done o turned = cleared turned ∙ sym (load-ready cells bytes image (o .tree) own (o .all) (o .enough) (o .is-ready))
+
+  module _ (o : Own image cells table (readyToServe (wholeWords image) (wordsOf image)) own) where
+    pub clear-done : Turned m t (clearOn (m .count)) → (r, after) ≡ clearBytes image cells
+    clear-done turned = cleared turned ∙ sym (clear-ready cells bytes image (o .tree) own (o .all) (o .enough) (o .is-ready))
+
+    pub poke-done : (b i v : ℕ) → Turned m t (pokeOn (arraysIn table) (held m) b i v) → (r, after) ≡ pokeBytes image cells b i v
+    poke-done b i v turned =
+        given-back cells own m c t (turned .same) (pokeOn (arraysIn table) (held m) b i v) (turned .gives) r after a e
+        ∙ (let s = o .arrays in rw (h, s)
+        (sym (poke-ready cells bytes image (o .tree) own (o .all) (o .enough) (o .is-ready) b i v)))
+
+-- nothing is written: the cells stand where they stood
+module _ (image cells table : List ℕ) (bytes : Bytes cells) (own : ℕ) (m : Machine) (h : held m ≡ take own (wordsOf cells))
+    (o : Own image cells table (readyToServe (wholeWords image) (wordsOf image)) own) (a i : ℕ) where
+  peeked : peekOn (o .tree .arrays) (take own (wordsOf cells)) a i .1 ≡ take own (wordsOf cells)
+  unfolding peekOn
+  peeked = go (hasCellIn (o .tree .arrays) a i)
+    where
+      go : (b : Bool)
+          → pick {A = Served} b (carriedOut (getD (take own (wordsOf cells)) (baseOf (o .tree .arrays) a + i) 0), take own (wordsOf cells))
+          (Refused 17 0, take own (wordsOf cells)) .1 ≡ take own (wordsOf cells)
+      go true = refl
+      go false = refl
+
+  pub peek-done : (t : Turn) → Turned m t (peekOn (arraysIn table) (held m) a i) → (t .answer, cells) ≡ peekBytes image cells a i
+  peek-done t turned =
+      let d : t .answer ≡ peekOn (o .tree .arrays) (take own (wordsOf cells)) a i .0 =
+      ap (λ (x : Served). x .0) (turned .gives) ∙ (let s = o .arrays in rw (h, s)) in
+      rw (d, peek-ready cells bytes image (o .tree) own (o .all) (o .enough) (o .is-ready) a i, peeked, front-back cells own bytes (o .enough))
+
+-- ---- a call
+
+pub called-back : (words cells after before trace : List ℕ) (own : ℕ) (m : Machine) (t : Turn) (f : ℕ) (arguments : List ℕ) (budget : ℕ) (r : Answer)
+    → held m ≡ take own (wordsOf cells) → m .count ≡ own
+    → TurnedCall m t before trace (calledOn (imageIn words) (held m) f (wordsOf arguments) budget (length (wordsOf before)))
+    → r ≡ t .answer → after ≡ bytesOf (held (t .machine)) ++ drop (4 * t .machine .count) cells
+    → (r, after, trace) ≡ afterCall cells own before (calledOn (imageIn words) (take own (wordsOf cells)) f (wordsOf arguments) budget (length (wordsOf before)))
+called-back words cells after before trace own m t f arguments budget r h c turned a e =
+    let n : t .machine .count ≡ own = turned .same ∙ c in
+    rw (e, a ∙ turned .answer, turned .cells, n, turned .trace, h)
+
+module _ (image cells words words′ table ends : List ℕ) (bytes : Bytes cells) (r : Ready)
+    (q : Prepared r (readyToServe (wholeWords image) (wordsOf image) (length cells / 4)) image words words′ table ends) (own : ℕ) (f : r ≡ Cells own) where
+  pub call-own : Own image cells table (readyToServe (wholeWords image) (wordsOf image)) own
+  call-own =
+      serve-own image cells table r own f (q .answer)
+      (left-table image (readyToServe (wholeWords image) (wordsOf image) (length cells / 4)) r words words′ table ends q .1)
+
+  short : length image / 4 ≤ 16384
+  short = let l = image-short (wordsOf image) table (call-own .known) in omega (arith, length-wordsOf image)
+
+  pub call-within : (min (length image / 4) 16384 ≤ length words′) → length image / 4 ≤ length words′
+  call-within h = omega (arith, short)
+
+  pub call-words : take (length image / 4) words′ ≡ wordsOf image
+  call-words =
+      let n : min (length image / 4) 16384 ≡ length image / 4 = omega (arith, short) in
+      (rw n at (q .front)) ∙ take-all 16384 (wordsOf image) (image-short (wordsOf image) table (call-own .known))
+
+  pub call-serves : Serves (take (length image / 4) words′) table ends own × (own ≤ 1024) × (4 * own ≤ length cells)
+  call-serves =
+      let o = call-own in
+      let s : Serves (wordsOf image) table ends own = record {
+        known = o .known;
+        blockEnds = ends-left (wholeWords image) (wordsOf image) (o .tree) (o .end) (o .read) table ends (q .tables);
+        all = rw (o .spelled) (o .all);
+      } in
+      (rw call-words s, o .few, o .enough)
+
+  pub call-done : (answer : Answer) (after before trace : List ℕ) (g : ℕ) (arguments : List ℕ) (budget : ℕ)
+      → (answer, after, trace)
+      ≡ afterCall cells own before (calledOn (imageIn (take (length image / 4) words′)) (take own (wordsOf cells)) g (wordsOf arguments) budget (length (wordsOf before)))
+      → (answer, after, trace) ≡ callBytes image cells g arguments budget before
+  call-done answer after before trace g arguments budget d =
+      let o = call-own in
+      let same : imageIn (take (length image / 4) words′) ≡ o .tree = ap imageIn call-words ∙ o .spelled in
+      d ∙ sym (call-ready cells bytes image (o .tree) own (o .all) (o .enough) (o .is-ready) g arguments budget before
+      (calledOn (imageIn (take (length image / 4) words′)) (take own (wordsOf cells)) g (wordsOf arguments) budget (length (wordsOf before)))
+      (ap (λ (i : Image). calledOn i (take own (wordsOf cells)) g (wordsOf arguments) budget (length (wordsOf before))) same))

@@ -1,0 +1,4 @@
+pub mod Table
+pub mod Segments
+pub mod Filling
+pub mod Looking
