@@ -4,11 +4,11 @@ use std::hint::black_box;
 use std::time::{Duration, Instant};
 
 use crate::workloads::{
-    hot_loop, long_source, nested_fors, small_routine, untaken_arm, Call, Workload,
+    hot_loop, long_source, mixed, nested_fors, small_routine, untaken_arm, Call, Workload,
 };
 use crate::{compile, library, second, words};
 
-/// Long enough for the trace of every workload: the branch in a loop leaves two words a pass.
+/// Long enough for the trace of every workload: the mixed loop leaves eight words a pass.
 const TRACE_WORDS: usize = 1 << 20;
 const OUT_WORDS: usize = 16384;
 
@@ -85,14 +85,15 @@ fn time_compile(image: &[u8]) -> Pair {
 /// The times of a call, and its steps.
 fn time_call(image: &[u8], call: &Call) -> (Pair, u32) {
     let mut trace = vec![0; 4 * TRACE_WORDS];
-    let answer = library::call(image, &mut [], call, &mut trace);
+    let (mut lent, mut cells) = (vec![0; 4 * call.cells], vec![0; call.cells]);
+    let answer = library::call(image, &mut lent, call, &mut trace);
     assert!(
-        answer.done && answer == second::call(image, &mut [], call, TRACE_WORDS),
+        answer.done && answer == second::call(image, &mut cells, call, TRACE_WORDS),
         "calls differ"
     );
     let pair = least_times(
-        || library::call(black_box(image), &mut [], call, &mut trace),
-        || second::call(black_box(image), &mut [], call, TRACE_WORDS),
+        || library::call(black_box(image), &mut lent, call, &mut trace),
+        || second::call(black_box(image), &mut cells, call, TRACE_WORDS),
     );
     (pair, answer.steps)
 }
@@ -145,6 +146,7 @@ pub fn rate_table(passes: u32) {
     }
     source_rows(&hot_loop(passes));
     source_rows(&untaken_arm(passes / 8, LONGEST_ARM));
+    source_rows(&mixed(passes / 8));
     println!();
 }
 
@@ -182,6 +184,7 @@ pub fn growth_table(passes: u32) {
     });
     growth_rows("hot loop", "run", "passes", passes, |n| run(hot_loop(n)));
     growth_rows("untaken arm", "run", "passes", passes / 8, |n| run(untaken_arm(n, LONGEST_ARM)));
+    growth_rows("mixed loop", "run", "passes", passes / 8, |n| run(mixed(n)));
     growth_rows("untaken arm", "run", "arm words", LONGEST_ARM, |n| {
         run(untaken_arm(passes / 8, n))
     });

@@ -5,6 +5,8 @@ use crate::words::{self, statement, word};
 pub struct Call {
     /// words, most significant byte first
     pub arguments: Vec<u8>,
+    /// the number of cells of the image's arrays
+    pub cells: usize,
 }
 
 #[derive(PartialEq, Eq, Debug)]
@@ -25,10 +27,13 @@ const PUBLIC_WORD: u32 = 0x4000_0000;
 const SECRET_WORD: u32 = 0x4000_0001;
 const SECRET_BOOLEAN: u32 = 0x4000_0003;
 const ADD: u32 = 0xD000_0000;
+const AND: u32 = 0xD000_0003;
+const XOR: u32 = 0xD000_0005;
 const EQUAL: u32 = 0xD000_000B;
+const LESS: u32 = 0xD000_000C;
 
 fn workload(name: &'static str, image: &[u32], arguments: &[u32]) -> Workload {
-    let call = Call { arguments: words::to_bytes(arguments) };
+    let call = Call { arguments: words::to_bytes(arguments), cells: 0 };
     Workload { name, image: words::to_bytes(image), call }
 }
 
@@ -96,6 +101,33 @@ pub fn untaken_arm(passes: u32, arm: u32) -> Workload {
     push_additions(&mut image, 1, 1);
     image.extend([statement(words::RETURN, 0), variable(1)]);
     workload("untaken arm", &image, &[])
+}
+
+/// for i from 0 to passes, over an array of 16 cells: a[i and 15] := a[i and 15] + i; v := select(i < 7, a[i and 15], v);
+/// if i and 1 = 0, v := v + 3, else v := v xor i; returns v. Four entries a pass.
+pub fn mixed(passes: u32) -> Workload {
+    let low = |mask: u32| [AND, variable(0), constant(mask)];
+    let cell = [&[word(words::INDEX, 0)], &low(15)[..]].concat();
+    let mut image = vec![0x1000_0101, word(words::ARRAY, 16), procedure(0, 2)];
+    image.extend([PUBLIC_WORD, PUBLIC_WORD, PUBLIC_WORD, block(2)]);
+    image.extend([statement(words::FOR, 0), constant(0), constant(passes), block(3)]);
+    image.push(statement(words::STORE, 0));
+    image.extend(low(15));
+    image.push(ADD);
+    image.extend(&cell);
+    image.push(variable(0));
+    image.extend([statement(words::ASSIGN, 1), word(words::SELECT, 0), LESS, variable(0), constant(7)]);
+    image.extend(&cell);
+    image.push(variable(1));
+    image.extend([statement(words::IF, 0), EQUAL]);
+    image.extend(low(1));
+    image.extend([constant(0), block(1)]);
+    push_additions(&mut image, 1, 1);
+    image.extend([block(1), statement(words::ASSIGN, 1), XOR, variable(1), variable(0)]);
+    image.extend([statement(words::RETURN, 0), variable(1)]);
+    let mut mixed = workload("mixed loop", &image, &[]);
+    mixed.call.cells = 16;
+    mixed
 }
 
 /// So many fors inside each other, in form 0 or 1; in the innermost an assignment, or a return under a secret if.

@@ -15,33 +15,35 @@ use Rattle.definitions.specs.Reading.{Parse, got, refused}
 use Rattle.definitions.specs.Checking.{admitted, checked}
 use Rattle.definitions.specs.Encoding.{imageWords}
 use Rattle.definitions.specs.Compiling.{compiledImage, fitLocals, fits, written, compiledTree, compiled}
-use Rattle.definitions.specs.Host.{checkBytes, compileBytes}
+use Rattle.definitions.specs.Host.{wholeWords, checkBytes, compileBytes}
 use Rattle.definitions.specs.declared.Checked.{Checked}
 use Rattle.definitions.specs.declared.Compiled.{Compiled}
 use Rattle.definitions.specs.declared.Compiled.the-variants.{Written, Refused}
 use Rattle.laws.specs.Tests.{and-right}
 use Rattle.requests.specs.LentCells.{lent-front}
 use Rattle.words.proofs.Laws.{Bytes, length-wordsOf, lent-wordsOf}
-use Rattle.lent_images.specs.Counts.{countOf, Output, placed, count-within}
+use Rattle.lent_images.specs.Counts.{countOf, Output, handed, attempt, placed, count-within}
 use Rattle.requests.specs.LongImages.{front, wholeAndShort, same-checked, same-compiled}
-
--- what hand_over leaves in the lent bytes
-abbrev handed : List ℕ → Output → Output
-handed b r = (r .0, bytesOf (take (countOf (r .0)) (r .1)) ++ drop (4 * countOf (r .0)) b)
 
 -- what the compiler's output on the words of lent bytes leaves in them
 abbrev onBytes : List ℕ → Output → Output
 onBytes b r = (r .0, lent b (r .1))
 
--- ---- the output on bytes, by the output on the first words that they have room for
+-- ---- the output on bytes, by the output on words that they have room for
 
-module _ (b old : List ℕ) (h : Bytes b) (room : length old ≡ min (length b / 4) 16384) where
+-- a result that is too long for the words is too long for the bytes
+abbrev Fair : List ℕ → List ℕ → Parse Image → Type 0
+Fair b old x =
+    (image : Image) (n : ℕ) → x ≡ got image n → eqb (image .form) 0 ≡ true → fits (compiledImage image) ≡ true
+    → length old < length (imageWords (compiledImage image)) → length b / 4 < length (imageWords (compiledImage image))
+
+module _ (b old : List ℕ) (h : Bytes b) (room : length old ≤ length b / 4) where
   refused-stays : (n p : ℕ) → handed b (Refused n p, old) ≡ onBytes b (Refused n p, wordsOf b)
   unfolding bytesOf
   refused-stays n p = rw (lent-wordsOf b h)
 
-  written-stays : (ws : List ℕ) → length ws ≤ 16384 → handed b (placed true ws old) ≡ onBytes b (placed true ws (wordsOf b))
-  written-stays ws few = go (leb (length ws) (length old)) refl
+  written-stays : (ws : List ℕ) → (length old < length ws → length b / 4 < length ws) → handed b (placed true ws old) ≡ onBytes b (placed true ws (wordsOf b))
+  written-stays ws fair = go (leb (length ws) (length old)) refl
     where
       size : length (wordsOf b) ≡ length b / 4
       size = length-wordsOf b
@@ -54,29 +56,25 @@ module _ (b old : List ℕ) (h : Bytes b) (room : length old ≡ min (length b /
           rw (m, take-at ws (drop (length ws) old) (length ws) refl)
           (ap (λ x. (Written (length ws), x)) (sym (lent-front b ws (length ws) h refl (omega arith))))
       go false e =
-          let n : length old < length ws = leb-false (length ws) (length old) e in
+          let n : length b / 4 < length ws = fair (leb-false (length ws) (length old) e) in
           let m : leb (length ws) (length (wordsOf b)) ≡ false = lt-leb (length ws) (length (wordsOf b)) (let s = size in omega arith) in
           rw m (refused-stays 16 0)
 
-  placed-on : (f : Bool) (ws : List ℕ) → (f ≡ true → length ws ≤ 16384) → handed b (placed f ws old) ≡ onBytes b (placed f ws (wordsOf b))
-  placed-on true ws few = written-stays ws (few refl)
-  placed-on false ws few = refused-stays 15 0
+  written-on : (image : Image) (t : Bool) → fits image ≡ t
+      → (t ≡ true → length old < length (imageWords image) → length b / 4 < length (imageWords image))
+      → handed b (placed t (imageWords image) old) ≡ onBytes b (placed t (imageWords image) (wordsOf b))
+  written-on image true e fair = written-stays (imageWords image) (fair refl)
+  written-on image false e fair = refused-stays 15 0
 
-  written-on : (image : Image) → handed b (written image old) ≡ onBytes b (written image (wordsOf b))
-  unfolding written
-  written-on image =
-      placed-on (fits image) (imageWords image)
-      (λ e. leb-true (length (imageWords image)) 16384 (and-right (fitLocals (image .procedures)) (leb (length (imageWords image)) 16384) e))
-
-  tree-on : (x : Parse Image) → handed b (compiledTree x old) ≡ onBytes b (compiledTree x (wordsOf b))
-  unfolding compiledTree
-  tree-on (refused n p) = refused-stays n p
-  tree-on (got image n) = go (eqb (image .form) 0)
+  tree-on : (x : Parse Image) → Fair b old x → handed b (compiledTree x old) ≡ onBytes b (compiledTree x (wordsOf b))
+  unfolding compiledTree written
+  tree-on (refused n p) fair = refused-stays n p
+  tree-on (got image n) fair = go (eqb (image .form) 0) refl
     where
-      go : (s : Bool) → handed b (pick s (written (compiledImage image) old) (Refused 14 0, old))
+      go : (s : Bool) → eqb (image .form) 0 ≡ s → handed b (pick s (written (compiledImage image) old) (Refused 14 0, old))
           ≡ onBytes b (pick s (written (compiledImage image) (wordsOf b)) (Refused 14 0, wordsOf b))
-      go true = written-on (compiledImage image)
-      go false = refused-stays 14 0
+      go true e = written-on (compiledImage image) (fits (compiledImage image)) refl (λ f. fair image n refl e f)
+      go false e = refused-stays 14 0
 
 -- ---- the words of a part of a slice
 
@@ -87,8 +85,8 @@ within-is r x old room Y e k h = rw (take-at x (drop room old) room (k ∙ lengt
 -- ---- the words that go into the lent bytes
 
 module _ (a : Compiled) (result b : List ℕ) where
-  pub write-asks : (n : ℕ) → a ≡ Written n → (countOf a ≤ 16384) × (4 * countOf a ≤ length b) → length result ≡ 16384 → (n ≤ length result) × (4 * n ≤ length b)
-  write-asks n e (few, space) long = let c : countOf a ≡ n = rw e in (omega arith, omega arith)
+  pub write-asks : (n : ℕ) → a ≡ Written n → (countOf a ≤ length result) × (4 * countOf a ≤ length b) → (n ≤ length result) × (4 * n ≤ length b)
+  write-asks n e asked = rw e at asked
 
   pub written-handed : (n : ℕ) → a ≡ Written n → (left : List ℕ) → left ≡ bytesOf (take n result) ++ drop (4 * n) b
       → (Written n ≡ a) × (left ≡ bytesOf (take (countOf a) result) ++ drop (4 * countOf a) b)
@@ -98,32 +96,80 @@ module _ (a : Compiled) (result b : List ℕ) where
   unfolding bytesOf
   refused-handed n p e = (sym e, rw e refl)
 
--- ---- the two functions
+-- ---- the checker
 
 pub checked-bytes : (image part : List ℕ) (whole : Bool) (r : Checked) → part ≡ front image → whole ≡ wholeAndShort image → r ≡ checked whole part
     → r ≡ checkBytes image
 checked-bytes image part whole r e w d = d ∙ same-checked image part whole e w
 
-module _ (part b result after : List ℕ) (whole : Bool) (room : ℕ) (a : Compiled) (space : room ≡ min (length b / 4) 16384) (long : length result ≡ 16384)
-    (q : _≡_ {A = Output} (a, take room after) (compiled whole part (take room result))) where
-  size : length (take room result) ≡ room
-  size = length-take-le room result (omega arith)
+-- ---- the compiler, with lent arrays
 
+module _ (part b result after : List ℕ) (whole : Bool) (room : ℕ) (a : Compiled) (space : room ≡ min (length b / 4) (length result))
+    (q : _≡_ {A = Output} (a, take room after) (compiled whole part (take room result))) where
   count-few : countOf a ≤ room
   unfolding compiled
   count-few =
       let m : countOf (compiled whole part (take room result) .0) ≤ length (take room result) = count-within (admitted whole part) (take room result) in
       let e : countOf a ≡ countOf (compiled whole part (take room result) .0) = ap (λ (x : Output). countOf (x .0)) q in
-      let s = size in omega arith
+      let s : length (take room result) ≡ room = length-take-le room result (omega arith) in omega arith
 
-  pub hand-over-asks : (countOf a ≤ 16384) × (4 * countOf a ≤ length b)
-  hand-over-asks = let c = count-few in (omega arith, omega arith)
+  pub hand-over-asks : length after ≡ length result → (countOf a ≤ length after) × (4 * countOf a ≤ length b)
+  hand-over-asks l = let c = count-few in (omega arith, omega arith)
 
-  pub compiled-bytes : (image : List ℕ) → Bytes b → part ≡ front image → whole ≡ wholeAndShort image → (r : Compiled) (left : List ℕ) → r ≡ a
-      → left ≡ bytesOf (take (countOf a) after) ++ drop (4 * countOf a) b → _≡_ {A = Output} (r, left) (compileBytes image b)
-  unfolding compileBytes compiled
-  compiled-bytes image h e w r left ra l =
+  pub attempted : (image : List ℕ) → part ≡ front image → whole ≡ wholeAndShort image → (r : Compiled) (left : List ℕ) → r ≡ a
+      → left ≡ bytesOf (take (countOf a) after) ++ drop (4 * countOf a) b → _≡_ {A = Output} (r, left) (attempt image b result)
+  unfolding attempt
+  attempted image e w r left ra l =
       let same : take (countOf a) (take room after) ≡ take (countOf a) after = take-take (countOf a) room after count-few in
       let mine : _≡_ {A = Output} (r, left) (handed b (a, take room after)) = rw (ra, l, same) in
-      let other = same-compiled image part whole e w (wordsOf b) in
-      mine ∙ ap (handed b) q ∙ tree-on b (take room result) h (size ∙ space) (admitted whole part) ∙ ap (onBytes b) other
+      let other : compiled whole part (take room result) ≡ compiled (wholeWords image) (wordsOf image) (take (min (length b / 4) (length result)) result) =
+      same-compiled image part whole e w (take room result) ∙ ap (λ (k : ℕ). compiled (wholeWords image) (wordsOf image) (take k result)) space in
+      mine ∙ ap (handed b) (q ∙ other)
+
+-- ---- the compiler, with arrays of its own
+
+module _ (image b result : List ℕ) (h : Bytes b) where
+  abbrev tried : List ℕ
+  tried = take (min (length b / 4) (length result)) result
+
+  tried-long : length tried ≡ min (length b / 4) (length result)
+  tried-long = length-take-le (min (length b / 4) (length result)) result (omega arith)
+
+  tried-fair : Fair b tried (admitted (wholeWords image) (wordsOf image)) → attempt image b result ≡ compileBytes image b
+  unfolding attempt compileBytes compiled
+  tried-fair fair = tree-on b tried h (let s = tried-long in omega arith) (admitted (wholeWords image) (wordsOf image)) fair
+
+  -- where the array has room for every result
+  pub attempt-long : length result ≡ 16384 → attempt image b result ≡ compileBytes image b
+  attempt-long long =
+      tried-fair (λ tree n e f g l.
+      let few : length (imageWords (compiledImage tree)) ≤ 16384 =
+      leb-true (length (imageWords (compiledImage tree))) 16384
+      (and-right (fitLocals (compiledImage tree .procedures)) (leb (length (imageWords (compiledImage tree))) 16384) g) in
+      let s = tried-long in omega arith)
+
+  -- where the answer is not that there was too little
+  pub attempt-short : (attempt image b result .0 ≡ Refused 16 0 → ⊥) → attempt image b result ≡ compileBytes image b
+  unfolding attempt compiled compiledTree written
+  attempt-short not = tried-fair (λ tree n e f g l. absurd (not (short tree n e f g l)))
+    where
+      short : (tree : Image) (n : ℕ) → admitted (wholeWords image) (wordsOf image) ≡ got tree n → eqb (tree .form) 0 ≡ true → fits (compiledImage tree) ≡ true
+          → length tried < length (imageWords (compiledImage tree)) → compiledTree (admitted (wholeWords image) (wordsOf image)) tried .0 ≡ Refused 16 0
+      short tree n e f g l = rw (e, f, g, lt-leb (length (imageWords (compiledImage tree))) (length tried) l)
+
+  -- a refusal leaves the lent bytes as they were
+  pub attempt-refused : (r : Compiled) (after : List ℕ) → _≡_ {A = Output} (r, after) (attempt image b result) → (k p : ℕ) → r ≡ Refused k p → after ≡ b
+  unfolding attempt bytesOf
+  attempt-refused r after e k p f =
+      let a : compiled (wholeWords image) (wordsOf image) tried .0 ≡ Refused k p = sym (ap (λ (x : Output). x .0) e) ∙ f in
+      ap (λ (x : Output). x .1) e ∙ (rw a refl)
+
+  pub not-16 : (r : Compiled) (after : List ℕ) → _≡_ {A = Output} (r, after) (attempt image b result) → (r ≡ Refused 16 0 → ⊥)
+      → _≡_ {A = Output} (r, after) (compileBytes image b)
+  not-16 r after e not = e ∙ attempt-short (λ z. not (ap (λ (x : Output). x .0) e ∙ z))
+
+pub written-not : (n : ℕ) → Written n ≡ Refused 16 0 → ⊥
+written-not n e = absurd (let z : _≡_ {A = ℕ} 0 1 = cc in omega arith)
+
+pub other-not : (k p : ℕ) → (k ≡ 16 → ⊥) → Refused k p ≡ Refused 16 0 → ⊥
+other-not k p h e = h cc

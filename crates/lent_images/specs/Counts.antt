@@ -2,13 +2,13 @@
 use mathlib.Core.Path.{_≡_, refl}
 use mathlib.Core.Bool.{Bool, true, false}
 use mathlib.Core.List.{List, _++_}
-use Prim.Native.Nat.{ℕ, _/_, _≤_}
+use Prim.Native.Nat.{ℕ, _*_, _/_, _≤_, min}
 use native.Mathlib.Omega.{arith}
 use borrow.Author.Tests.{leb-true}
 use lib.Dec.{leb, eqb}
-use lib.ListN.{length, drop}
+use lib.ListN.{length, take, drop}
 use Rattle.definitions.specs.Choice.{pick}
-use Rattle.definitions.specs.Bytes.{wordsOf}
+use Rattle.definitions.specs.Bytes.{wordsOf, bytesOf}
 use Rattle.definitions.specs.Image.{Image}
 use Rattle.definitions.specs.Reading.{Parse, got, refused}
 use Rattle.definitions.specs.Checking.{admitted}
@@ -25,6 +25,14 @@ countOf (Refused k p) = 0
 
 abbrev pub Output : Type 0
 Output = Compiled × List ℕ
+
+-- what the lent bytes are once the words that the compiler wrote have gone into them
+abbrev pub handed : List ℕ → Output → Output
+handed b r = (r .0, bytesOf (take (countOf (r .0)) (r .1)) ++ drop (4 * countOf (r .0)) b)
+
+-- compiled into the first words of `result`, as many as the lent bytes have room for, and handed over
+unfoldable pub attempt : List ℕ → List ℕ → List ℕ → Output
+attempt image b result = handed b (compiled (wholeWords image) (wordsOf image) (take (min (length b / 4) (length result)) result))
 
 -- the compiler's answer by its three tests
 abbrev pub placed : Bool → List ℕ → List ℕ → Output

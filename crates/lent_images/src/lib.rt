@@ -2,17 +2,18 @@
 use definitions::Checked;
 use definitions::Compiled;
 use tables::SIZE;
+use words::images::SHORT;
 use words::images::admissible;
 use words::images::read_image;
 ghost use mathlib.Core.Path.{_≡_};
 ghost use mathlib.Core.List.{_++_};
 ghost use Prim.Native.Nat.{_*_, _/_, _≤_, min};
-ghost use lib.ListN.{length, take, drop};
+ghost use lib.ListN.{length, take, drop, replicate};
 ghost use Rattle.definitions.specs.Bytes.{bytesOf};
 ghost use Rattle.definitions.specs.Checking.{checked};
 ghost use Rattle.definitions.specs.Compiling.{compiled};
 ghost use Rattle.definitions.specs.Host.{checkBytes, compileBytes};
-ghost use Rattle.lent_images.specs.Counts.{countOf};
+ghost use Rattle.lent_images.specs.Counts.{countOf, attempt};
 
 // The checker's answer alone, without the tables.
 fn check_words(image: &[u32], whole: bool) -> Checked
@@ -41,7 +42,7 @@ fn check_into(image: &[u8], words: &mut [u32]) -> Checked
     check_front(words, n, whole)
 }
 
-// A short image: an array of its size spares the time to fill a larger one.
+// A short image.
 fn check_short(image: &[u8]) -> Checked
     requires { ⌜ length (now image) ≤ 2048 ⌝ }
     ensures { λ r. ⌜ r ≡ checkBytes (now (image .entry)) ⌝ }
@@ -62,7 +63,7 @@ fn check_long(image: &[u8]) -> Checked
 pub fn check_bytes(image: &[u8]) -> Checked
     ensures { λ r. ⌜ r ≡ checkBytes (now (image .entry)) ⌝ }
 {
-    if image.len() <= 2048 {
+    if image.len() <= SHORT {
         return check_short(image);
     }
     check_long(image)
@@ -84,33 +85,19 @@ fn compile_within(words: &[u32], n: usize, whole: bool, result: &mut [u32], room
     compile_front(words, n, whole, &mut result[..room])
 }
 
-// The same for arrays: a part is taken of a slice only.
-fn compile_read(
-    words: &[u32; 16384],
-    n: usize,
-    whole: bool,
-    result: &mut [u32; 16384],
-    room: usize,
-) -> Compiled
-    requires { ⌜ (n ≤ 16384) × (room ≤ 16384) ⌝ }
-    ensures { λ r. ⌜ (r, take room (now (result .exit))) ≡ compiled whole (take n (now (words .entry))) (take room (now (result .entry))) ⌝ }
+// The words that a slice of bytes has room for, as far as there are words for them.
+fn room_in(bytes: usize, most: usize) -> usize
+    ensures { λ r. ⌜ r ≡ min (bytes / 4) most ⌝ }
 {
-    compile_within(words, n, whole, result, room)
-}
-
-// The words that a slice of bytes has room for, as far as any form admits them.
-fn room_in(bytes: usize) -> usize
-    ensures { λ r. ⌜ r ≡ min (bytes / 4) 16384 ⌝ }
-{
-    if bytes / 4 < 16384 {
+    if bytes / 4 < most {
         return bytes / 4;
     }
-    16384
+    most
 }
 
 // The words that the compiler wrote go into the lent bytes; after a refusal these stay as they were.
-fn hand_over(answer: Compiled, result: &[u32; 16384], out: &mut [u8]) -> Compiled
-    requires { ⌜ (countOf answer ≤ 16384) × (4 * countOf answer ≤ length (now out)) ⌝ }
+fn hand_over(answer: Compiled, result: &[u32], out: &mut [u8]) -> Compiled
+    requires { ⌜ (countOf answer ≤ length (now result)) × (4 * countOf answer ≤ length (now out)) ⌝ }
     ensures { λ r. ⌜ (r ≡ answer) × (now (out .exit) ≡ bytesOf (take (countOf answer) (now (result .entry))) ++ drop (4 * countOf answer) (now (out .entry))) ⌝ }
 {
     match answer {
@@ -122,15 +109,59 @@ fn hand_over(answer: Compiled, result: &[u32; 16384], out: &mut [u8]) -> Compile
     }
 }
 
-// Compiles an image that is lent as bytes into lent bytes. Those past the result stay.
-pub fn compile_bytes(image: &[u8], out: &mut [u8]) -> Compiled
+// With arrays for the image's words and for the result, which may be shorter than the output.
+fn compile_with(image: &[u8], out: &mut [u8], words: &mut [u32], result: &mut [u32]) -> Compiled
+    requires { ⌜ min (length (now image) / 4) 16384 ≤ length (now words) ⌝ }
+    ensures { λ r. ⌜ (r, now (out .exit)) ≡ attempt (now (image .entry)) (now (out .entry)) (now (result .entry)) ⌝ }
+{
+    let n = read_image(image, words);
+    let whole = admissible(image);
+    let room = room_in(out.len(), result.len());
+    let answer = compile_within(words, n, whole, result, room);
+    hand_over(answer, result, out)
+}
+
+// A short image, whose result is most often short.
+fn compile_short(image: &[u8], out: &mut [u8]) -> Compiled
+    requires { ⌜ length (now image) ≤ 2048 ⌝ }
+    ensures { λ r. ⌜ (r, now (out .exit)) ≡ attempt (now (image .entry)) (now (out .entry)) (replicate 1024 0) ⌝ }
+{
+    let mut words = [0u32; 512];
+    let mut result = [0u32; 1024];
+    compile_with(image, out, &mut words, &mut result)
+}
+
+// An image of any length.
+fn compile_long(image: &[u8], out: &mut [u8]) -> Compiled
     ensures { λ r. ⌜ (r, now (out .exit)) ≡ compileBytes (now (image .entry)) (now (out .entry)) ⌝ }
 {
     let mut words = [0u32; 16384];
     let mut result = [0u32; 16384];
-    let n = read_image(image, &mut words);
-    let whole = admissible(image);
-    let room = room_in(out.len());
-    let answer = compile_read(&words, n, whole, &mut result, room);
-    hand_over(answer, &result, out)
+    compile_with(image, out, &mut words, &mut result)
+}
+
+// A short image again with long arrays, where its result was too long for the short one.
+fn compile_again(image: &[u8], out: &mut [u8]) -> Compiled
+    requires { ⌜ length (now image) ≤ 2048 ⌝ }
+    ensures { λ r. ⌜ (r, now (out .exit)) ≡ compileBytes (now (image .entry)) (now (out .entry)) ⌝ }
+{
+    match compile_short(image, out) {
+        Compiled::Written(count) => Compiled::Written(count),
+        Compiled::Refused(number, place) => {
+            if number == 16 {
+                return compile_long(image, out);
+            }
+            Compiled::Refused(number, place)
+        }
+    }
+}
+
+// Compiles an image that is lent as bytes into lent bytes. Those past the result stay.
+pub fn compile_bytes(image: &[u8], out: &mut [u8]) -> Compiled
+    ensures { λ r. ⌜ (r, now (out .exit)) ≡ compileBytes (now (image .entry)) (now (out .entry)) ⌝ }
+{
+    if SHORT < image.len() {
+        return compile_long(image, out);
+    }
+    compile_again(image, out)
 }

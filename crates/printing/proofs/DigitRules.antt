@@ -8,8 +8,8 @@ use native.Mathlib.Nat.{pow-suc, pow-le-pow-right}
 use borrow.Author.Tests.{lt-ltb, le-ltb, leb-true, leb-false}
 use lib.Dec.{ltb, leb}
 use native.Mathlib.Numerals.{add-one}
-use lib.ListN.{length, getD, take, set}
-use lib.Seq.{paste, take-paste, paste-suc, take-length, length-take-le}
+use lib.ListN.{length, getD, take, drop, set}
+use lib.Seq.{paste, take-paste, drop-paste, paste-suc, take-length, length-take-le}
 use Rattle.io.specs.Digits.{digits, Fewest}
 use Rattle.printing.specs.Text.{hexDigit, wordLine, decimalDigits, decimalText}
 
@@ -77,10 +77,12 @@ module _ (n at k : ℕ) (spelled text : List ℕ) (fits : n < 184467440737095516
   copy-asks = let few = twenty n k fits w in rw size (omega arith)
 
   pub number-is : (after : List ℕ) → take k spelled ≡ digits 10 k n → after ≡ paste text at (take k spelled) (length (take k spelled))
-      → (at + k ≤ at + 20) × (take (at + k) after ≡ take at text ++ decimalText n)
+      → (at + k ≤ at + 20) × (take (at + k) after ≡ take at text ++ decimalText n) × (drop (at + k) after ≡ drop (at + k) text) × (at ≤ at + k)
   number-is after s e =
       let few : k ≤ 20 = twenty n k fits w in
       let all : take (length (take k spelled)) (take k spelled) ≡ take k spelled = take-length (take k spelled) in
       let front : take (at + k) after ≡ take at text ++ take k (take k spelled) =
       ap (take (at + k)) (rw size at e) ∙ take-paste text at (take k spelled) k (omega arith) (rw size (omega arith)) in
-      (omega arith, front ∙ ap (λ x. take at text ++ x) ((rw size at all) ∙ s ∙ decimal-is k 20 n w few))
+      let behind : drop (at + k) after ≡ drop (at + k) text =
+      ap (drop (at + k)) (rw size at e) ∙ drop-paste text at (take k spelled) k (omega arith) (rw size (omega arith)) in
+      (omega arith, front ∙ ap (λ x. take at text ++ x) ((rw size at all) ∙ s ∙ decimal-is k 20 n w few), behind, omega arith)

@@ -7,8 +7,8 @@ use native.Mathlib.Numerals.{add-one}
 use native.Mathlib.Omega.{arith}
 use borrow.Author.Tests.{leb-true, leb-false}
 use lib.Dec.{leb}
-use lib.ListN.{length, getD, take, set, List·getD-append}
-use lib.Seq.{take-suc, take-suc-set, take-all, getD-take, getD-append-add, length-take-le}
+use lib.ListN.{length, getD, take, drop, set, List·getD-append}
+use lib.Seq.{take-suc, take-suc-set, take-all, getD-take, getD-append-add, length-take-le, drop-set-lt, drop-drop}
 use Rattle.definitions.specs.Bytes.{wordAt, wordsOf}
 use Rattle.words.proofs.Laws.{length-wordsOf, getD-wordsOf}
 use Rattle.printing.specs.Text.{wordLine, listing}
@@ -62,3 +62,11 @@ module _ (b : List ℕ) (n : ℕ) (room : 4 * n ≤ length b) where
       let s = size in
       let e : 9 * n ≡ j = omega arith in
       rw e (t ∙ take-all j (listing (take n (wordsOf b))) (omega arith))
+
+-- behind what was written stands what stood there
+pub behind-more : (text before : List ℕ) (j v : ℕ) → drop j text ≡ drop j before → drop (j + 1) (set text j v) ≡ drop (j + 1) before
+behind-more text before j v e =
+    drop-set-lt (j + 1) text j v (omega arith) ∙ sym (drop-drop 1 j text) ∙ ap (λ (x : List ℕ). drop 1 x) e ∙ drop-drop 1 j before
+
+pub lines-behind : (n j : ℕ) (text before : List ℕ) → 9 * n ≤ j → j ≤ 9 * n → drop j text ≡ drop j before → drop (9 * n) text ≡ drop (9 * n) before
+lines-behind n j text before g h e = let s : 9 * n ≡ j = omega arith in rw s e

@@ -3,7 +3,7 @@ use definitions::Compiled;
 ghost use mathlib.Core.Path.{_≡_};
 ghost use mathlib.Core.List.{_++_};
 ghost use Prim.Native.Nat.{_+_, _*_, _<_, _≤_};
-ghost use lib.ListN.{length, getD, take};
+ghost use lib.ListN.{length, getD, take, drop};
 ghost use lib.Seq.{paste};
 ghost use Rattle.definitions.specs.Bytes.{wordsOf};
 ghost use Rattle.lent_images.specs.Counts.{countOf};
@@ -55,7 +55,8 @@ fn line_byte(w: u32, k: usize) -> u8
 // A line for each of the first n words.
 fn put_listing(bytes: &[u8], n: usize, text: &mut [u8]) -> usize
     requires { ⌜ (n ≤ 16384) × (4 * n ≤ length (now bytes)) × (9 * n ≤ length (now text)) ⌝ }
-    ensures { λ r. ⌜ (r ≤ length (now (text .exit))) × (take r (now (text .exit)) ≡ listing (take n (wordsOf (now (bytes .entry))))) ⌝ }
+    ensures { λ r. ⌜ (r ≤ length (now (text .exit))) × (take r (now (text .exit)) ≡ listing (take n (wordsOf (now (bytes .entry)))))
+        × (drop r (now (text .exit)) ≡ drop r (now (text .entry))) ⌝ }
 {
     let end = 9 * n;
     let mut j = 0;
@@ -81,7 +82,8 @@ fn copy(digits: &[u8], text: &mut [u8], at: usize)
 // A number in decimal behind the first `at` characters; answers where it ends.
 fn put_number(n: u64, text: &mut [u8], at: usize) -> usize
     requires { ⌜ at + 20 ≤ length (now text) ⌝ }
-    ensures { λ r. ⌜ (r ≤ at + 20) × (take r (now (text .exit)) ≡ take at (now (text .entry)) ++ decimalText n) ⌝ }
+    ensures { λ r. ⌜ (r ≤ at + 20) × (take r (now (text .exit)) ≡ take at (now (text .entry)) ++ decimalText n)
+        × (drop r (now (text .exit)) ≡ drop r (now (text .entry))) × (at ≤ r) ⌝ }
 {
     let mut digits = [0u8; 20];
     let k = io::decimal(n, &mut digits);
@@ -92,7 +94,8 @@ fn put_number(n: u64, text: &mut [u8], at: usize) -> usize
 // The line of a refusal.
 fn put_refusal(number: u32, place: usize, text: &mut [u8]) -> usize
     requires { ⌜ 42 ≤ length (now text) ⌝ }
-    ensures { λ r. ⌜ (r ≤ length (now (text .exit))) × (take r (now (text .exit)) ≡ refusalLine number place) ⌝ }
+    ensures { λ r. ⌜ (r ≤ length (now (text .exit))) × (take r (now (text .exit)) ≡ refusalLine number place)
+        × (drop r (now (text .exit)) ≡ drop r (now (text .entry))) ⌝ }
 {
     let a = put_number(number as u64, text, 0);
     text[a] = 32;
@@ -104,7 +107,8 @@ fn put_refusal(number: u32, place: usize, text: &mut [u8]) -> usize
 // The text of an answer, with the output that the compiler left.
 fn put_answer(answer: Compiled, out: &[u8], text: &mut [u8]) -> usize
     requires { ⌜ (countOf answer ≤ 16384) × (4 * countOf answer ≤ length (now out)) × (147456 ≤ length (now text)) ⌝ }
-    ensures { λ r. ⌜ (r ≤ length (now (text .exit))) × (take r (now (text .exit)) ≡ answerText answer (wordsOf (now (out .entry)))) ⌝ }
+    ensures { λ r. ⌜ (r ≤ length (now (text .exit))) × (take r (now (text .exit)) ≡ answerText answer (wordsOf (now (out .entry))))
+        × (drop r (now (text .exit)) ≡ drop r (now (text .entry))) ⌝ }
 {
     match answer {
         Compiled::Refused(number, place) => put_refusal(number, place, text),
@@ -112,10 +116,10 @@ fn put_answer(answer: Compiled, out: &[u8], text: &mut [u8]) -> usize
     }
 }
 
-// Compiles an image that is lent as bytes, and writes the text of the answer to the front of a slice.
+// Compiles an image that is lent as bytes, and writes the text of the answer to the front of a slice; what stands behind it stays.
 pub fn print_compiled(image: &[u8], text: &mut [u8; 147456]) -> usize
     ensures { λ r. ⌜ (r ≤ length (now (text .exit))) × (r ≡ length (take r (now (text .exit)))) ⌝ }
-    ensures { λ r. ⌜ take r (now (text .exit)) ≡ printed (now (image .entry)) ⌝ }
+    ensures { λ r. ⌜ (take r (now (text .exit)) ≡ printed (now (image .entry))) × (drop r (now (text .exit)) ≡ drop r (now (text .entry))) ⌝ }
 {
     let mut out = [0u8; 65536];
     let answer = lent_images::compile_bytes(image, &mut out);

@@ -2,6 +2,7 @@
 use definitions::Checked;
 use requests::cells::cell_count;
 use tables::SIZE;
+use words::images::SHORT;
 use words::images::admissible;
 use words::images::read_image;
 ghost use mathlib.Core.Path.{_≡_};
@@ -23,9 +24,6 @@ pub enum Ready {
     // the refusal: document 01's number and place
     Unready(u32, usize),
 }
-
-// An image of so many bytes is short: arrays of its size spare the time to fill larger ones.
-pub const SHORT: usize = 2048;
 
 // Whether enough cells are lent for an image that was accepted.
 fn with_cells(table: &[u32; SIZE], count: usize) -> Ready

@@ -2,9 +2,9 @@
 use definitions::Answer;
 use machine::Machine;
 use ready::Ready;
-use ready::SHORT;
 use ready::prepare_to_serve;
 use tables::SIZE;
+use words::images::SHORT;
 ghost use mathlib.Core.Path.{_≡_};
 ghost use Prim.Native.Nat.{_/_, _*_, _≤_, min};
 ghost use lib.ListN.{length, take, replicate};
@@ -14,6 +14,9 @@ ghost use Rattle.definitions.specs.Host.{callBytes};
 ghost use Rattle.laws.specs.ImageIn.{imageIn};
 ghost use Rattle.machine.specs.Serving.{Serves};
 ghost use Rattle.requests.specs.ByteRequests.{afterCall};
+
+// A small routine has so many bytes.
+const SMALL: usize = 256;
 
 // On the words of an image that is ready, with `own` cells.
 fn call_cells(
@@ -67,6 +70,32 @@ fn call_with(
             )
         }
     }
+}
+
+// A small routine.
+fn call_small(
+    image: &[u8],
+    cells: &mut [u8],
+    f: u32,
+    arguments: &[u8],
+    budget: u32,
+    trace: &mut [u8],
+) -> Answer
+    requires { ⌜ length (now image) ≤ 256 ⌝ }
+    ensures { λ r. ⌜ (r, now (cells .exit), now (trace .exit)) ≡ callBytes (now (image .entry)) (now (cells .entry)) f (now (arguments .entry)) budget (now (trace .entry)) ⌝ }
+{
+    let mut words = [0u32; 64];
+    let mut ends = [0u32; 64];
+    call_with(
+        image,
+        cells,
+        f,
+        arguments,
+        budget,
+        trace,
+        &mut words,
+        &mut ends,
+    )
 }
 
 // A short image.
@@ -131,6 +160,9 @@ pub fn call(
 ) -> Answer
     ensures { λ r. ⌜ (r, now (cells .exit), now (trace .exit)) ≡ callBytes (now (image .entry)) (now (cells .entry)) f (now (arguments .entry)) budget (now (trace .entry)) ⌝ }
 {
+    if image.len() <= SMALL {
+        return call_small(image, cells, f, arguments, budget, trace);
+    }
     if image.len() <= SHORT {
         return call_short(image, cells, f, arguments, budget, trace);
     }

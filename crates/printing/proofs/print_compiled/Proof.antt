@@ -17,5 +17,5 @@ print-compiled-spec = tie.close (tie.spec
         (length-replicate {A = ℕ} 65536 0) (compile-bytes· .kept .1 .0) (search needs))
     -- returns
     (λ c. printed-is (c .before .before .before .before .before .before .before .args .image .now) _ _ (c .before .before
-        .before .before .compile-bytes .ensures) _ _ (c .put-answer .ensures))
+        .before .before .compile-bytes .ensures) _ _ (c .before .before .before .before .before .before .before .args .text .now) (c .put-answer .ensures))
     )

@@ -15,9 +15,9 @@ put-answer-spec = tie.close (tie.spec
     (λ c. search needs)  -- same-length
     -- returns
     (λ c. refused-text _ (c .before .before .before .before .before .before .before .before .before .args .out .now) _ _ _ _ (c
-        .before .before .before .before .before .answer .given .1) (c .before .before .put-refusal .ensures))
+        .before .before .before .before .before .answer .given .1) (c .before .before .before .before .before .before .before .before .before .args .text .now) (c .before .before .put-refusal .ensures))
     (λ c. search needs)  -- same-length-2
     -- returns-2
     (λ c. written-text _ (c .before .before .before .before .before .before .before .before .before .args .out .now) _ _ _ (c
-        .before .before .before .before .before .answer2 .given .1) (c .before .before .put-listing .ensures))
+        .before .before .before .before .before .answer2 .given .1) (c .before .before .before .before .before .before .before .before .before .args .text .now) (c .before .before .put-listing .ensures))
     )
