@@ -11,8 +11,7 @@ use Rattle.definitions.specs.Host.{wholeWords, loadBytes, clearBytes, pokeBytes
 use Rattle.requests.specs.LongImages.{front, wholeAndShort, same-admitted}
 use Rattle.results.specs.Named.{answerPlace, checkedPlace, compiledPlace}
 use Rattle.results.specs.Images.{Admits, admits-image, checked-within, compiled-within}
-use Rattle.results.specs.Requests.{serves-load, serves-clear, serves-poke, serves-peek, calls-image}
-use Rattle.results.specs.Requests.{load-within, request-within, serves-within, calls-within}
+use Rattle.results.specs.Requests.{load-within, clear-within, poke-within, peek-within, calls-image, calls-within}
 
 module _ (image : List ℕ) where
   short : length (front image) ≤ 16384
@@ -35,19 +34,19 @@ module _ (image : List ℕ) where
   module _ (cells : List ℕ) where
     pub load-place : answerPlace (loadBytes image cells .0) < 4294967296
     unfolding loadBytes
-    load-place = fits (serves-within (λ k p r. load-within r) (serves-load (wholeWords image) (wordsOf image) admits-front (wordsOf cells)))
+    load-place = fits (load-within (wholeWords image) (wordsOf image) admits-front (wordsOf cells))
 
     pub clear-place : answerPlace (clearBytes image cells .0) < 4294967296
     unfolding clearBytes
-    clear-place = fits (serves-within (λ k p r. request-within r) (serves-clear (wholeWords image) (wordsOf image) admits-front (wordsOf cells)))
+    clear-place = fits (clear-within (wholeWords image) (wordsOf image) admits-front (wordsOf cells))
 
     pub poke-place : (a i v : ℕ) → answerPlace (pokeBytes image cells a i v .0) < 4294967296
     unfolding pokeBytes
-    poke-place a i v = fits (serves-within (λ k p r. request-within r) (serves-poke (wholeWords image) (wordsOf image) admits-front (wordsOf cells) a i v))
+    poke-place a i v = fits (poke-within (wholeWords image) (wordsOf image) admits-front (wordsOf cells) a i v)
 
     pub peek-place : (a i : ℕ) → answerPlace (peekBytes image cells a i .0) < 4294967296
     unfolding peekBytes
-    peek-place a i = fits (serves-within (λ k p r. request-within r) (serves-peek (wholeWords image) (wordsOf image) admits-front (wordsOf cells) a i))
+    peek-place a i = fits (peek-within (wholeWords image) (wordsOf image) admits-front (wordsOf cells) a i)
 
     pub call-place : (f : ℕ) (arguments : List ℕ) (budget : ℕ) (trace : List ℕ) → answerPlace (callBytes image cells f arguments budget trace .0) < 4294967296
     unfolding callBytes

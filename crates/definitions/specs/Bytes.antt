@@ -1,7 +1,11 @@
 -- Words and bytes: "byte slices, four bytes a word, most significant first".
 use mathlib.Core.List.{List, [], _∷_, _++_}
-use Prim.Native.Nat.{ℕ, _+_, _*_, _/_, _%_, _^_}
+use Prim.Native.Nat.{ℕ, _+_, _*_, _/_, _%_, _^_, _<_}
 use lib.ListN.{length, getD, drop}
+
+-- Every element is a byte: what the host lends. Past the end of a list stands 0, which is one.
+abbrev pub Bytes : List ℕ → Type 0
+Bytes bytes = (i : ℕ) → getD bytes i 0 < 256
 
 -- the word of four bytes
 abbrev pub joined : ℕ → ℕ → ℕ → ℕ → ℕ

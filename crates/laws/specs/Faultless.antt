@@ -13,7 +13,8 @@ use Rattle.definitions.specs.Faults.{noFault, before, lower, least}
 use Rattle.definitions.specs.Sorts.{imageSortFaults}
 use Rattle.definitions.specs.Labels.{imageLabelFaults}
 use Rattle.definitions.specs.Checking.{faultOf}
-use Rattle.laws.specs.Least.{here, least-found}
+use Rattle.laws.specs.Least.{least-found}
+use Rattle.statements.specs.Statements.{here}
 use Rattle.laws.specs.Trees.{anywhere-procedures}
 use Rattle.laws.specs.Listed.{All, all-none, all-more, all-sort-faults, all-label-faults}
 

@@ -11,11 +11,7 @@ use borrow.Author.Tests.{ltb-true, ltb-false, eqb-true, eqb-false}
 use Rattle.definitions.specs.Choice.{pick}
 use Rattle.definitions.specs.declared.Fault.{Fault}
 use Rattle.definitions.specs.Faults.{noFault, before, lower, least}
-
--- a fault is one of a list
-pub data Among (f : Fault) : List Fault → Type 0 where
-  here : {fs : List Fault} → Among f (f ∷ fs)
-  there : {g : Fault} {fs : List Fault} → Among f fs → Among f (g ∷ fs)
+use Rattle.statements.specs.Statements.{Among, here, there}
 
 -- a stands at least as low as f: there is no fault f, or a is a fault with a lower place, or on the same word with no higher number
 pub data AsLow (a f : Fault) : Type 0 where

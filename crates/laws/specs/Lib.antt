@@ -1,7 +1,7 @@
 pub mod Admitted
+pub mod Cells
 pub mod ExpressionInversion
 pub mod Faultless
-pub mod Fits
 pub mod ImageIn
 pub mod Later
 pub mod Least
@@ -10,6 +10,7 @@ pub mod Listed
 pub mod Parameters
 pub mod Parses
 pub mod Places
+pub mod Ready
 pub mod ReadImages
 pub mod Reads
 pub mod Spelled

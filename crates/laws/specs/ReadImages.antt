@@ -20,10 +20,10 @@ use Rattle.definitions.specs.Encoding.{wordWith, procedureWords, proceduresWord
 use Rattle.laws.specs.Tests.{and-left, and-right}
 use Rattle.laws.specs.WordTests.{header-limits, procedure-limits, array-limits}
 use Rattle.laws.specs.Trees.{BlockPlaces, ProceduresPlaces, no-procedure, and-procedure}
-use Rattle.laws.specs.Fits.{AllTypes, no-types, more-types, FitsArrays, no-arrays, more-arrays, FitsProcedure}
-use Rattle.laws.specs.Fits.{FitsProcedures, no-procedures, more-procedures, arityOf, Arities, FitsImage}
+use Rattle.statements.specs.Limits.{AllTypes, no-types, more-types, FitsArrays, no-arrays, more-arrays, FitsProcedure}
+use Rattle.statements.specs.Limits.{FitsProcedures, no-procedures, more-procedures, arityOf, FitsImage}
 use Rattle.laws.specs.Spelled.{On, on-none, on-more, on-join, on-length, on-end, on-rest, Words, words-on}
-use Rattle.laws.specs.Reads.{Reads, reads, refuses, read-as, no-image, wrong-word, spare-word, reads-then}
+use Rattle.laws.specs.Reads.{Arities, Reads, reads, refuses, read-as, no-image, wrong-word, spare-word, reads-then}
 use Rattle.laws.specs.Reads.{reads-word, Inside, ReadBlock, reads-block}
 use Rattle.laws.specs.Places.{block-ends}
 use Rattle.laws.specs.Levels.{Agree}

@@ -22,10 +22,10 @@ use Rattle.laws.specs.Trees.{ExpressionPlaces, at-constant, at-boolean, 
 use Rattle.laws.specs.Trees.{at-select, ExpressionsPlaces, no-expression, and-expression, StatementPlaces}
 use Rattle.laws.specs.Trees.{in-assign, in-store, in-conditional, in-loop, in-return, in-call, BlockPlaces}
 use Rattle.laws.specs.Trees.{in-done, in-sequence}
-use Rattle.laws.specs.Fits.{FitsExpression, fit-constant, fit-boolean, fit-variable, fit-cell, fit-unary}
-use Rattle.laws.specs.Fits.{fit-binary, fit-select, FitsAll, fit-none, fit-more, FitsStatement, fit-assign}
-use Rattle.laws.specs.Fits.{fit-store, fit-conditional, fit-loop, fit-return, fit-call, FitsBlock, fit-block}
-use Rattle.laws.specs.Fits.{FitsStatements, fit-done, fit-sequence, Arities}
+use Rattle.statements.specs.Limits.{FitsExpression, fit-constant, fit-boolean, fit-variable, fit-cell, fit-unary}
+use Rattle.statements.specs.Limits.{fit-binary, fit-select, FitsAll, fit-none, fit-more, FitsStatement, fit-assign}
+use Rattle.statements.specs.Limits.{fit-store, fit-conditional, fit-loop, fit-return, fit-call, FitsBlock, fit-block}
+use Rattle.statements.specs.Limits.{FitsStatements, fit-done, fit-sequence}
 use Rattle.laws.specs.Spelled.{On, on-none, on-more, on-join}
 
 -- "1 empty, too long or not whole words. 2 [word] wrong kind or payload. 3 [length] ends early. 4 [first spare word].
@@ -36,6 +36,10 @@ pub data ReadRefusal (n : ℕ) : ℕ → ℕ → Type 0 where
   ends-early : ReadRefusal n 3 n
   spare-word : {p : ℕ} → p < n → ReadRefusal n 4 p
   too-deep : {p : ℕ} → p < n → ReadRefusal n 5 p
+
+-- a table has the number of parameters of each procedure before the one numbered `me`
+abbrev pub Arities : List ℕ → ℕ → (ℕ → ℕ) → Type 0
+Arities params me arity = (f : ℕ) → f < me → getD params f 0 ≡ arity f
 
 -- a part that is, with its end, as P says; or a refusal
 pub data Reads (n : ℕ) {A : Type 0} (P : A → ℕ → Type 0) : Parse A → Type 0 where
@@ -233,7 +237,7 @@ module _ (image : List ℕ) where
         }))))
         (λ o. let low = call-limit me w g o in rw o (reads-then (reads-arguments l (getD params (calledOf w) 0) (at + 1)) (λ es n x. reads (record {
           inside = h;
-          fits = λ arity known. fit-call low (omega arith) (omega arith) (x .count ∙ known (calledOf w) low) (x .fits);
+          fits = λ arity known. fit-call low (omega arith) (x .count ∙ known (calledOf w) low) (x .fits);
           places = in-call (x .places);
           words = on-more h (omega arith) (x .words);
         }))))

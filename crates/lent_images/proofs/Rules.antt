@@ -9,7 +9,7 @@ use lib.Dec.{leb, eqb}
 use lib.ListN.{length, take, drop}
 use lib.Seq.{length-take-le, take-at, take-take}
 use Rattle.definitions.specs.Choice.{pick}
-use Rattle.definitions.specs.Bytes.{wordsOf, bytesOf, lent}
+use Rattle.definitions.specs.Bytes.{Bytes, wordsOf, bytesOf, lent}
 use Rattle.definitions.specs.Image.{Image}
 use Rattle.definitions.specs.Reading.{Parse, got, refused}
 use Rattle.definitions.specs.Checking.{admitted, checked}
@@ -20,8 +20,7 @@ use Rattle.definitions.specs.declared.Checked.{Checked}
 use Rattle.definitions.specs.declared.Compiled.{Compiled}
 use Rattle.definitions.specs.declared.Compiled.the-variants.{Written, Refused}
 use Rattle.laws.specs.Tests.{and-right}
-use Rattle.requests.specs.LentCells.{lent-front}
-use Rattle.words.proofs.Laws.{Bytes, length-wordsOf, lent-wordsOf}
+use Rattle.words.proofs.Laws.{lent-front, length-wordsOf, lent-wordsOf}
 use Rattle.lent_images.specs.Counts.{countOf, Output, handed, attempt, placed, count-within}
 use Rattle.requests.specs.LongImages.{front, wholeAndShort, same-checked, same-compiled}
 

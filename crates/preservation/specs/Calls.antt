@@ -18,7 +18,8 @@ use Rattle.definitions.specs.Requests.{Called, answered, argumentValues, ended,
 use Rattle.preservation.specs.Relations.{Spent, Sim, meet, left, right, fail}
 use Rattle.preservation.specs.Simulation.{SameGiven, sameGiven}
 use Rattle.preservation.specs.Bodies.{Accepted, typed-parameters}
-use Rattle.preservation.specs.Preservation.{Compilable, accepted-at, compiled-at, compiled-count, withGuard}
+use Rattle.preservation.specs.Preservation.{Compilable, accepted-at, compiled-at, compiled-count}
+use Rattle.statements.specs.Statements.{withGuard}
 use Rattle.preservation.specs.Preservation.{preserved}
 use Rattle.preservation.specs.Erasure.{erasedProcedure, erasedProcedures, erasedImage, erased-at, erased-count}
 use Rattle.preservation.specs.ErasedRuns.{AlikeTraces, same-room, alike-turned, sim-alike, alike-procedure}

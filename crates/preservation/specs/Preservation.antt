@@ -18,6 +18,7 @@ use Rattle.definitions.specs.Checking.{faultOf}
 use Rattle.definitions.specs.Compiling.{guards, compiledTypes, compiledProcedure, compiledProcedures, compiledImage}
 use Rattle.definitions.specs.Compiling.{fitLocals}
 use Rattle.definitions.specs.Running.{Trace, Ran, andGo, Given, Callee, frame, finish, runBlock, runProcedure}
+use Rattle.statements.specs.Statements.{withGuard}
 use Rattle.laws.specs.Tests.{empties, conjuncts}
 use Rattle.laws.specs.Faultless.{faultless}
 use Rattle.preservation.specs.WellRead.{wellReadProcedure, wellReadProcedures, wellRead}
@@ -141,10 +142,6 @@ module _ (I : Image) (c : Compilable I) {T U : Type 0} (C : Trace T) (D : Trace 
             guard = λ f ws v g o e z t y u cs.
                 sim-more-procedures n i ks f ws (v ∷ []) e (rw g refl) (λ _. rw (← e, getD-append-seam ws v [] 0) o) z t y u cs (ks .guard f ws v g o e z t y u cs);
           }
-
--- the arguments of a procedure's compiled form: "a host passes 1", the guard, after those of a guarded procedure
-abbrev pub withGuard : Procedure → List ℕ → List ℕ
-withGuard p ws = ws ++ pick (guarded p) (1 ∷ []) []
 
 -- A compiled procedure ends as its source ends, over any two kinds of trace, any two budgets, and from any steps and traces on.
 pub preserved : (I : Image) → Compilable I → {T U : Type 0} (C : Trace T) (D : Trace U) (budget budget′ : ℕ) (f : ℕ) (ws : List ℕ)

@@ -1,5 +1,2 @@
-pub mod AnswerBytes
-pub mod ResultsOfFunctions
-pub mod Sessions
-pub mod CompiledByFunctions
+pub mod Functions
 pub mod Promises

@@ -1,158 +1,252 @@
--- What the compiler and the machine promise beyond the definitions themselves, one statement each. They are stated over the definitions that
--- the code is proved equal to. Assumes nothing.
-use Prim.Native.Nat.{ℕ, _*_, _≤_}
-use mathlib.Core.Bool.{Bool, true, false, _||_, true≢false}
-use mathlib.Core.List.{List, [], _∷_, _++_}
-use mathlib.Core.Path.{_≡_, refl, sym}
-use lib.Dec.{eqb}
-use lib.ListN.{length, take}
-use Rattle.definitions.specs.Choice.{pick}
+-- The three properties that Tinesage promises, and that the C functions have them. A reader needs the definitions (crates/definitions/specs), what
+-- stands in crates/statements/specs, and document 01 beside them; the proofs stand elsewhere, and are cited at the end of each section.
+-- Every function named here is a request of the definitions on lent bytes (Host). All of them are total, so each gives an answer; `Bytes` says that
+-- what is lent are bytes. Assumes nothing.
+use Prim.Native.Nat.{ℕ, _+_, _*_, _≤_, _<_}
+use mathlib.Core.List.{List}
+use mathlib.Core.Path.{_≡_}
+use lib.ListN.{length, take, drop}
+use Rattle.definitions.specs.declared.Fault.{Fault}
 use Rattle.definitions.specs.declared.Answer.{Answer}
 use Rattle.definitions.specs.declared.Answer.the-variants.{Done, Stopped, Refused}
-use Rattle.definitions.specs.declared.Checked.the-variants.{Accepted}
-use Rattle.definitions.specs.declared.Compiled.the-variants.{Written}
-use Rattle.definitions.specs.Image.{Image, guarded, procedureAt}
-use Rattle.definitions.specs.Reading.{got, readImage}
-use Rattle.definitions.specs.Checking.{checked}
-use Rattle.definitions.specs.Compiling.{compiled}
-use Rattle.definitions.specs.Requests.{Called, load, clear, poke, peek, call}
-use Rattle.definitions.specs.Host.{compileBytes}
-use Rattle.secrecy.specs.Sessions.{Request, Response, empty, AlikeLists, SameTurns}
-use Rattle.secrecy.specs.Secrecy.{secrecy}
-use Rattle.properties.specs.Compiled.{Begun, done, stopped, budget-spent, trace-full, SameEnd, both-done, both-stopped}
-use Rattle.properties.specs.Compiled.{both-refused, source-out, compiled-out, compiled-keeps-meaning}
-use Rattle.properties.specs.CompiledBytes.{KeepsMeaningBytes, compiled-bytes-keep-meaning}
-use Rattle.tinesage.specs.Contracts.{Compiles}
-use Rattle.results.specs.Results.{Results, ResultsOnBytes, property-1-bytes as results-on-bytes, property-1 as results}
-use Rattle.promises.specs.AnswerBytes.{answerIn}
-use Rattle.promises.specs.ResultsOfFunctions.{ResultsOfFunctions, results-of-functions}
-use Rattle.promises.specs.CompiledByFunctions.{KeepsMeaningFunctions, functions-keep-meaning}
-use Rattle.promises.specs.Sessions.{Session, SameSessions, same-sessions}
+use Rattle.definitions.specs.declared.Checked.the-variants.{Accepted, Refused as CheckRefused}
+use Rattle.definitions.specs.declared.Compiled.{Compiled}
+use Rattle.definitions.specs.declared.Compiled.the-variants.{Written, Refused as CompileRefused}
+use Rattle.definitions.specs.Bytes.{Bytes, wordAt, wordsOf, lent}
+use Rattle.definitions.specs.Image.{Image, cellCount, baseOf}
+use Rattle.definitions.specs.Encoding.{imageWords}
+use Rattle.definitions.specs.Reading.{refused, readImage}
+use Rattle.definitions.specs.Sorts.{imageSortFaults}
+use Rattle.definitions.specs.Labels.{imageLabelFaults}
+use Rattle.definitions.specs.Compiling.{compiledImage}
+use Rattle.definitions.specs.Requests.{Called}
+use Rattle.definitions.specs.Host.{wholeWords, checkBytes, compileBytes, loadBytes, clearBytes, pokeBytes, peekBytes}
+use Rattle.definitions.specs.Host.{callBytes}
+use Rattle.statements.specs.Statements.{Iff, Exactly, AdmissibleBytes, Among, RefusesBytes, NotLoaded, Loadable, NotReady, NoCell}
+use Rattle.statements.specs.Statements.{WithCell, NotCalled, Callable, cleared, stored, ResultOrStop, stepsOf, recordedCount}
+use Rattle.statements.specs.Statements.{recordedIn, SameOrSpent, SameOrFilled, BeyondArray, DivisorZero, NotWritten}
+use Rattle.statements.specs.Statements.{Compilable, SameMeaning, Machine, empty, Request, responses, AlikeLists, SameTurns}
+use Rattle.statements.specs.Statements.{answerIn, checkedIn, compiledIn}
+use Rattle.tinesage.specs.Contracts.{Checks, Compiles, Loads, Clears, Pokes, Peeks, Calls}
+use Rattle.results.specs.Accepted.{accepted-exactly, refused-exactly, reading-number, sort-number, label-number}
+use Rattle.results.specs.Exactly.{loaded-or-not, ready-or-not, cell-or-not, called-or-not, load-refused-exactly, load-is-done}
+use Rattle.results.specs.Exactly.{clear-refused-exactly, clear-is-done, poke-refused-exactly, poke-is-done}
+use Rattle.results.specs.Exactly.{peek-refused-exactly, peek-is-done, call-refused-exactly, call-ends, load-unchanged}
+use Rattle.results.specs.Exactly.{clear-unchanged, poke-unchanged, peek-unchanged, call-unchanged, stop-leaves, done-leaves}
+use Rattle.results.specs.Written.{written-or-not, compile-refused-exactly, compile-is-written, compile-unchanged}
+use Rattle.results.specs.StoppedExactly.{two-budgets, two-traces, steps-within, words-within, budget-reached, trace-filled}
+use Rattle.results.specs.StoppedExactly.{index-stops, divisor-stops}
+use Rattle.properties.specs.CompiledBytes.{target-accepted, target-tree, target-loads, same-meaning}
+use Rattle.secrecy.specs.Secrecy.{secrecy, served-to-the-end}
+use Rattle.promises.specs.Functions.{check-read, compile-read, request-read, call-read}
 
--- Property 1. Every function of the definitions is total, so every image and every call gets an answer. Which answers there are, each with its places:
--- a result; one of the four stops 21 to 24, with the steps and entries so far, the cells as before; or a refusal, with cells and output as before.
--- The kinds of answers are in Answers (of the laws "results"), the statement for each request is in Results.
-pub property-1 : Results
-property-1 = results
+-- ======== Property 1
+-- Every image and every call gets a result, one of four named stops, or the exact refusal; refusals and stops leave cells and output unchanged.
 
--- The same for a host, which lends bytes.
-pub property-1-bytes : ResultsOnBytes
-property-1-bytes = results-on-bytes
+-- When a call is stopped, whatever its budget and the trace lent: no "21 or 22 given before the first step without cause".
+pub record StoppedExactly (image cells : List ℕ) (f : ℕ) (arguments : List ℕ) : Type 0 where
+  -- "Each statement begun and each loop pass costs one step, never beyond the 32-bit budget"; no more trace words are recorded than are lent
+  pub steps-within : (budget : ℕ) (trace : List ℕ) → stepsOf (callBytes image cells f arguments budget trace .0) ≤ budget
+  pub words-within : (budget : ℕ) (trace : List ℕ) → recordedCount (callBytes image cells f arguments budget trace .0) ≤ length (wordsOf trace)
+  -- "21 budget spent": "stop 21 falls exactly when the budget is reached". A larger budget changes nothing, or the call takes more steps with it.
+  pub budget-reached : (budget : ℕ) (trace : List ℕ) (p z n : ℕ) → callBytes image cells f arguments budget trace .0 ≡ Stopped 21 p z n → z ≡ budget
+  pub two-budgets : (b b′ : ℕ) (trace : List ℕ) → b ≤ b′
+      → SameOrSpent b (callBytes image cells f arguments b trace) (callBytes image cells f arguments b′ trace)
+  -- "22 means fewer than two trace words are free for an entry." A longer trace changes nothing, or the call records at least one entry more with it.
+  pub trace-full : (budget : ℕ) (trace : List ℕ) (p z n : ℕ) → callBytes image cells f arguments budget trace .0 ≡ Stopped 22 p z n
+      → length (wordsOf trace) < n + 2
+  pub two-traces : (budget : ℕ) (trace trace′ : List ℕ) → length (wordsOf trace) ≤ length (wordsOf trace′)
+      → SameOrFilled (length (wordsOf trace)) (callBytes image cells f arguments budget trace) (callBytes image cells f arguments budget trace′)
+  -- "23 index beyond the array, 24 divisor 0": "An entry follows its operands and precedes the bounds or zero test", so the last one says why
+  pub index-stops : (budget : ℕ) (trace : List ℕ) (p z n : ℕ) → callBytes image cells f arguments budget trace .0 ≡ Stopped 23 p z n
+      → BeyondArray (wordsOf image) p (recordedIn (callBytes image cells f arguments budget trace))
+  pub divisor-stops : (budget : ℕ) (trace : List ℕ) (p z n : ℕ) → callBytes image cells f arguments budget trace .0 ≡ Stopped 24 p z n
+      → DivisorZero (wordsOf image) p (recordedIn (callBytes image cells f arguments budget trace))
 
--- ---- Property 2, in full: nothing but the definitions is named
+-- What is as before: after a refusal the cells, the output and the trace; "A stop answers 0 with the steps and entries so far; cells are as before
+-- the call and later trace words untouched." A peek leaves the cells in every case, and so does every call the trace words past those recorded.
+pub record Unchanged (image cells : List ℕ) : Type 0 where
+  pub by-load : (k p : ℕ) → loadBytes image cells .0 ≡ Refused k p → loadBytes image cells .1 ≡ cells
+  pub by-clear : (k p : ℕ) → clearBytes image cells .0 ≡ Refused k p → clearBytes image cells .1 ≡ cells
+  pub by-poke : (a i v k p : ℕ) → pokeBytes image cells a i v .0 ≡ Refused k p → pokeBytes image cells a i v .1 ≡ cells
+  pub by-peek : (a i : ℕ) → peekBytes image cells a i .1 ≡ cells
+  pub by-refused-call : (f : ℕ) (arguments : List ℕ) (budget : ℕ) (trace : List ℕ) (k p : ℕ)
+      → callBytes image cells f arguments budget trace .0 ≡ Refused k p
+      → (callBytes image cells f arguments budget trace .1 ≡ cells) × (callBytes image cells f arguments budget trace .2 ≡ trace)
+  pub by-stop : (f : ℕ) (arguments : List ℕ) (budget : ℕ) (trace : List ℕ) (k p z n : ℕ)
+      → callBytes image cells f arguments budget trace .0 ≡ Stopped k p z n
+      → (callBytes image cells f arguments budget trace .1 ≡ cells)
+      × (drop (4 * n) (callBytes image cells f arguments budget trace .2) ≡ drop (4 * n) trace)
+  pub by-result : (f : ℕ) (arguments : List ℕ) (budget : ℕ) (trace : List ℕ) (v z n : ℕ)
+      → callBytes image cells f arguments budget trace .0 ≡ Done v z n
+      → drop (4 * n) (callBytes image cells f arguments budget trace .2) ≡ drop (4 * n) trace
+  pub by-compile : (out : List ℕ) → Bytes out → (k p : ℕ) → compileBytes image out .0 ≡ CompileRefused k p → compileBytes image out .1 ≡ out
 
--- What has to be the same of two answers to a call: the result, the stop's number, or the refusal. Steps, trace and a stop's place belong to each image.
-abbrev pub ending : Answer → Answer
-ending (Done result steps count) = Done result 0 0
-ending (Stopped number place steps count) = Stopped number 0 0 0
-ending (Refused number place) = Refused number place
+pub record Property1 : Type 0 where
+  -- The checker accepts exactly the bytes that are whole words and spell a tree which keeps the limits and has no fault of 6 to 8 and none of 9 to 13.
+  pub accepted-exactly : (image : List ℕ) → Iff (checkBytes image ≡ Accepted) ((tree : Image) × AdmissibleBytes image tree)
+  -- Otherwise number and place: reading's, or the lowest fault of 6 to 8, or, where there is none of those, the lowest of 9 to 13.
+  pub refused-exactly : (image : List ℕ) (k p : ℕ) → Iff (checkBytes image ≡ CheckRefused k p) (RefusesBytes image k p)
+  pub reading-numbers : (image : List ℕ) (k p : ℕ) → readImage (wholeWords image) (wordsOf image) ≡ refused k p → (1 ≤ k) × (k ≤ 5)
+  pub sort-numbers : (tree : Image) (f : Fault) → Among f (imageSortFaults tree) → (6 ≤ f .number) × (f .number ≤ 8)
+  pub label-numbers : (tree : Image) (f : Fault) → Among f (imageLabelFaults tree) → (9 ≤ f .number) × (f .number ≤ 13)
+  -- "Load sets cells to 0": the image's own; spare words are as before.
+  pub loaded-exactly : (image cells : List ℕ) → Bytes cells
+      → Exactly Refused (loadBytes image cells .0) (NotLoaded image cells) (Loadable image cells)
+      (λ tree. loadBytes image cells ≡ (Done 0 0 0, cleared (cellCount (tree .arrays)) cells))
+  -- "Clear zeroes cells."
+  pub cleared-exactly : (image cells : List ℕ) → Bytes cells
+      → Exactly Refused (clearBytes image cells .0) (NotReady image cells) (Loadable image cells)
+      (λ tree. clearBytes image cells ≡ (Done 0 0 0, cleared (cellCount (tree .arrays)) cells))
+  -- a poke sets the cell, a peek answers it: "the cells, arrays in order"
+  pub poked-exactly : (image cells : List ℕ) → Bytes cells → (a i v : ℕ)
+      → Exactly Refused (pokeBytes image cells a i v .0) (NoCell image cells a i) (WithCell image cells a i)
+      (λ tree. pokeBytes image cells a i v ≡ (Done 0 0 0, stored (baseOf (tree .arrays) a + i) v cells))
+  pub peeked-exactly : (image cells : List ℕ) → Bytes cells → (a i : ℕ)
+      → Exactly Refused (peekBytes image cells a i .0) (NoCell image cells a i) (WithCell image cells a i)
+      (λ tree. peekBytes image cells a i ≡ (Done (wordAt cells (baseOf (tree .arrays) a + i)) 0 0, cells))
+  -- a call that is not refused ends with a result or with one of the four stops
+  pub called-exactly : (image cells : List ℕ) → Bytes cells → (f : ℕ) (arguments : List ℕ) (budget : ℕ) (trace : List ℕ)
+      → Exactly Refused (callBytes image cells f arguments budget trace .0) (NotCalled image cells f arguments) (Callable image cells f arguments)
+      (λ tree. ResultOrStop (callBytes image cells f arguments budget trace .0))
+  pub stopped-exactly : (image cells : List ℕ) (f : ℕ) (arguments : List ℕ) → StoppedExactly image cells f arguments
+  pub unchanged : (image cells : List ℕ) → Bytes cells → Unchanged image cells
 
--- "21 budget spent, 22 trace full": the stops that depend on how many steps and trace words the host allows
-abbrev pub outOfRoom : Answer → Bool
-outOfRoom (Done result steps count) = false
-outOfRoom (Stopped number place steps count) = eqb number 21 || eqb number 22
-outOfRoom (Refused number place) = false
+pub property-1 : Property1
+property-1 =
+    record {
+      accepted-exactly = accepted-exactly;
+      refused-exactly = refused-exactly;
+      reading-numbers = λ image. reading-number (wholeWords image) (wordsOf image);
+      sort-numbers = sort-number;
+      label-numbers = label-number;
+      loaded-exactly = λ image cells b.
+          record { refused-where = load-refused-exactly image cells b; done-where = load-is-done image cells b; no-third = loaded-or-not image cells };
+      cleared-exactly = λ image cells b.
+          record { refused-where = clear-refused-exactly image cells b; done-where = clear-is-done image cells b; no-third = ready-or-not image cells };
+      poked-exactly = λ image cells b a i v.
+          record {
+            refused-where = poke-refused-exactly image cells b a i v;
+            done-where = λ tree w. poke-is-done image cells b a i tree w v;
+            no-third = cell-or-not image cells a i;
+          };
+      peeked-exactly = λ image cells b a i.
+          record {
+            refused-where = peek-refused-exactly image cells b a i;
+            done-where = peek-is-done image cells b a i;
+            no-third = cell-or-not image cells a i;
+          };
+      called-exactly = λ image cells b f arguments budget trace.
+          record {
+            refused-where = call-refused-exactly image cells b f arguments budget trace;
+            done-where = call-ends image cells b f arguments budget trace;
+            no-third = called-or-not image cells f arguments;
+          };
+      stopped-exactly = λ image cells f arguments.
+          record {
+            steps-within = steps-within image cells f arguments;
+            words-within = words-within image cells f arguments;
+            budget-reached = budget-reached image cells f arguments;
+            two-budgets = two-budgets image cells f arguments;
+            trace-full = trace-filled image cells f arguments;
+            two-traces = two-traces image cells f arguments;
+            index-stops = index-stops image cells f arguments;
+            divisor-stops = divisor-stops image cells f arguments;
+          };
+      unchanged = λ image cells b.
+          record {
+            by-load = load-unchanged image cells b;
+            by-clear = clear-unchanged image cells b;
+            by-poke = poke-unchanged image cells b;
+            by-peek = peek-unchanged image cells b;
+            by-refused-call = call-unchanged image cells b;
+            by-stop = stop-leaves image cells b;
+            by-result = done-leaves image cells b;
+            by-compile = compile-unchanged image;
+          };
+    }
 
-abbrev pub isRefused : Answer → Bool
-isRefused (Done result steps count) = false
-isRefused (Stopped number place steps count) = false
-isRefused (Refused number place) = true
+-- ======== Property 2
+-- A compiled image is accepted by the checker, loads over the same cells, and every call on it ends as the call on its source.
 
--- Two calls: one is refused where the other is; where neither stops with 21 or 22, both end alike and leave the same cells.
-abbrev pub EndAlike : Called → Called → Type 0
-EndAlike x y =
-    (isRefused (x .0) ≡ isRefused (y .0))
-    × (outOfRoom (x .0) ≡ false → outOfRoom (y .0) ≡ false → (ending (x .0) ≡ ending (y .0)) × (x .1 ≡ y .1))
+-- what the compiler wrote, where it answers that it wrote n words: the first of its output
+abbrev pub wrote : List ℕ → List ℕ → ℕ → List ℕ
+wrote image out n = take (4 * n) (compileBytes image out .1)
 
--- "A guarded procedure becomes open with one more, last parameter, a secret boolean guard .. a host passes 1, and compiled and source runs are
--- compared with that 1"
-abbrev pub withThatOne : Image → ℕ → List ℕ → List ℕ
-withThatOne source f arguments = arguments ++ pick (guarded (procedureAt (source .procedures) f)) (1 ∷ []) []
+pub record Property2 : Type 0 where
+  -- The compiler writes exactly where the image is accepted, in form 0, its result within form 1's limits and the slice long enough; else the checker's
+  -- refusal, 14, 15 or 16, in this order. The words written are those of the compiled tree. "Output words past the result stay unchanged."
+  pub written-exactly : (image out : List ℕ) → Bytes out
+      → Exactly CompileRefused (compileBytes image out .0) (NotWritten image out) (Compilable image out)
+      (λ tree. compileBytes image out ≡ (Written (length (imageWords (compiledImage tree))), lent out (imageWords (compiledImage tree))))
+  -- what it wrote is accepted
+  pub compiled-accepted : (image out : List ℕ) (n : ℕ) → compileBytes image out .0 ≡ Written n → checkBytes (wrote image out n) ≡ Accepted
+  -- it is in form 1, over the arrays of its source
+  pub compiled-form : (image out : List ℕ) (n : ℕ) → compileBytes image out .0 ≡ Written n → (tree : Image) → AdmissibleBytes image tree
+      → (target : Image) × AdmissibleBytes (wrote image out n) target × (target .form ≡ 1) × (target .arrays ≡ tree .arrays)
+  -- it loads over the cells of its source, all of them 0 then
+  pub compiled-loads : (image out : List ℕ) (n : ℕ) → compileBytes image out .0 ≡ Written n → (tree : Image) → AdmissibleBytes image tree
+      → (cells : List ℕ) → Bytes cells → 4 * cellCount (tree .arrays) ≤ length cells
+      → loadBytes (wrote image out n) cells ≡ (Done 0 0 0, cleared (cellCount (tree .arrays)) cells)
+  -- and every call on it ends as the call on its source, every other request having the same answer and leaving the same cells
+  pub compiled-ends : (image out : List ℕ) (n : ℕ) → compileBytes image out .0 ≡ Written n → (tree : Image) → AdmissibleBytes image tree
+      → SameMeaning image tree (wrote image out n)
 
--- A source's words and those of a compiled image. Both are accepted, the source in form 0, the compiled image in form 1, over the same arrays. A call of
--- any procedure with any arguments (and that 1), on equal cells, under any two budgets and with any two lengths of the lent trace, ends alike. Every
--- other request has the same answer and leaves the same cells.
-abbrev pub SameMeaning : Bool → List ℕ → List ℕ → Type 0
-SameMeaning whole words target-words =
-    (source : Image) × (target : Image)
-    × (readImage whole words ≡ got source (length words)) × (checked whole words ≡ Accepted) × (source .form ≡ 0)
-    × (readImage true target-words ≡ got target (length target-words)) × (checked true target-words ≡ Accepted) × (target .form ≡ 1)
-    × (target .arrays ≡ source .arrays)
-    × ((cells : List ℕ) (f : ℕ) (arguments : List ℕ) (budget budget′ room room′ : ℕ)
-    → EndAlike (call whole words cells f arguments budget room) (call true target-words cells f (withThatOne source f arguments) budget′ room′))
-    × ((cells : List ℕ) → load true target-words cells ≡ load whole words cells)
-    × ((cells : List ℕ) → clear true target-words cells ≡ clear whole words cells)
-    × ((cells : List ℕ) (a i v : ℕ) → poke true target-words cells a i v ≡ poke whole words cells a i v)
-    × ((cells : List ℕ) (a i : ℕ) → peek true target-words cells a i ≡ peek whole words cells a i)
+pub property-2 : Property2
+property-2 =
+    record {
+      written-exactly = λ image out b.
+          record { refused-where = compile-refused-exactly image out b; done-where = compile-is-written image out b; no-third = written-or-not image out };
+      compiled-accepted = target-accepted;
+      compiled-form = target-tree;
+      compiled-loads = target-loads;
+      compiled-ends = same-meaning;
+    }
 
--- a step of the proof: what the laws "properties" say of two calls (SameEnd)
-not-refused : {x : Called} → Begun x → isRefused (x .0) ≡ false
-not-refused done = refl
-not-refused stopped = refl
+-- ======== Property 3
+-- "Two lists of requests (load, poke, peek, clear, call) stand side by side .. Secret arguments and words poked into secret cells may differ. .. Equal at
+-- each turn: whether it is refused or stopped, number, place, steps, the number of trace words recorded and each of them, a public result, a peeked
+-- public cell. Equal after each turn: all cells of public arrays of the image then in force. This is one claim about the whole list".
 
-end-alike : {x y : Called} → SameEnd x y → EndAlike x y
-end-alike both-done = (refl, λ a b. (refl, refl))
-end-alike (both-stopped k) = (refl, λ a b. (refl, refl))
-end-alike both-refused = (refl, λ a b. (refl, refl))
-end-alike (source-out budget-spent b) = (sym (not-refused b), λ e f. absurd (true≢false e))
-end-alike (source-out trace-full b) = (sym (not-refused b), λ e f. absurd (true≢false e))
-end-alike (compiled-out budget-spent b) = (not-refused b, λ e f. absurd (true≢false f))
-end-alike (compiled-out trace-full b) = (not-refused b, λ e f. absurd (true≢false f))
+pub record Property3 : Type 0 where
+  -- "A machine starts empty: no image accepted yet. Both machines' cell slices have one length, whatever they hold at the start."
+  pub same-turns : (cells cells′ : List ℕ) (requests requests′ : List Request) → length cells ≡ length cells′
+      → AlikeLists (empty cells) requests requests′ → SameTurns (empty cells) (empty cells′) requests requests′
+  -- every list of requests is served to its end: there is a response to each
+  pub served-to-the-end : (m : Machine) (requests : List Request) → length (responses m requests) ≡ length requests
 
--- Property 2. The only hypothesis is that the compiler wrote n words (so the checker accepts the source).
-pub property-2 :
-    (whole : Bool) (words out : List ℕ) (n : ℕ) → compiled whole words out .0 ≡ Written n → SameMeaning whole words (take n (compiled whole words out .1))
-property-2 whole words out n e =
-    let k = compiled-keeps-meaning whole words out n e in (
-      k .source,
-      k .target,
-      k .source-read,
-      k .source-accepted,
-      k .source-form,
-      k .target-read,
-      k .target-accepted,
-      k .target-form,
-      k .same-arrays,
-      λ cells f arguments budget budget′ room room′. end-alike (k .calls cells f arguments budget budget′ room room′),
-      k .loads,
-      k .clears,
-      k .pokes,
-      k .peeks,
-    )
+pub property-3 : Property3
+property-3 = record { same-turns = secrecy; served-to-the-end = served-to-the-end }
 
--- The same for a host, which lends bytes; what is the same is in KeepsMeaningBytes (CompiledBytes, of the laws "properties").
-pub property-2-bytes :
-    (image out : List ℕ) (n : ℕ) → compileBytes image out .0 ≡ Written n → KeepsMeaningBytes image (take (4 * n) (compileBytes image out .1))
-property-2-bytes = compiled-bytes-keep-meaning
+-- ======== The C functions
+-- What a host reads in the 28 bytes or more that it lent for the answer, and what the lent slices hold, are the definition's: so each clause above is
+-- one of the C functions, with the left side for the right. The relations are the functions' contracts (tinesage/specs/Contracts.antt).
 
--- Property 3, "What demand 3 compares". Two machines start empty, over cell slices of one length, and serve two lists of requests of which only
--- secret arguments and words poked into secret cells differ, by the image in force; images that a load accepts are in form 1, whoever wrote them.
--- "Equal at each turn: whether it is refused or stopped, number, place, steps, the number of trace words recorded and each of them, a public
--- result, a peeked public cell. Equal after each turn: all cells of public arrays of the image then in force. This is one claim about the whole
--- list". What may differ is in AlikeLists, what is the same in SameTurns (Sessions, of the laws "secrecy").
-pub property-3 :
-    (cells cells′ : List ℕ) (requests requests′ : List Request) → length cells ≡ length cells′ → AlikeLists (empty cells) requests requests′
-    → SameTurns (empty cells) (empty cells′) requests requests′
-property-3 = secrecy
+pub record Functions : Type 0 where
+  pub checks : (image answer answer′ : List ℕ) → 28 ≤ length answer → Checks image answer answer′ → checkedIn answer′ ≡ checkBytes image
+  pub compiles : (image out answer out′ answer′ : List ℕ) → 28 ≤ length answer → Compiles image out answer out′ answer′
+      → _≡_ {A = Compiled × List ℕ} (compiledIn answer′, out′) (compileBytes image out)
+  pub loads : (image cells answer cells′ answer′ : List ℕ) → 28 ≤ length answer → Loads image cells answer cells′ answer′
+      → _≡_ {A = Answer × List ℕ} (answerIn answer′, cells′) (loadBytes image cells)
+  pub clears : (image cells answer cells′ answer′ : List ℕ) → 28 ≤ length answer → Clears image cells answer cells′ answer′
+      → _≡_ {A = Answer × List ℕ} (answerIn answer′, cells′) (clearBytes image cells)
+  pub pokes : (image cells : List ℕ) (a i v : ℕ) (answer cells′ answer′ : List ℕ) → 28 ≤ length answer → Pokes image cells a i v answer cells′ answer′
+      → _≡_ {A = Answer × List ℕ} (answerIn answer′, cells′) (pokeBytes image cells a i v)
+  pub peeks : (image cells : List ℕ) (a i : ℕ) (answer answer′ : List ℕ) → 28 ≤ length answer → Peeks image cells a i answer answer′
+      → _≡_ {A = Answer × List ℕ} (answerIn answer′, cells) (peekBytes image cells a i)
+  pub calls : (image cells : List ℕ) (f : ℕ) (arguments : List ℕ) (budget : ℕ) (trace answer cells′ trace′ answer′ : List ℕ) → 28 ≤ length answer
+      → Calls image cells f arguments budget trace answer cells′ trace′ answer′
+      → _≡_ {A = Called} (answerIn answer′, cells′, trace′) (callBytes image cells f arguments budget trace)
 
--- ---- The same of the C functions, from their contracts (Contracts, of the crate tinesage)
-
--- Property 1. What the host reads in each answer, and what each function leaves unchanged (ResultsOfFunctions).
-pub property-1-functions : ResultsOfFunctions
-property-1-functions = results-of-functions
-
--- Property 2. A host lends at least 28 bytes for each answer and reads it there (AnswerBytes). Where tinesage_compile answers that it is done and wrote
--- n words, checking, loading, poking, peeking, clearing and calling them with the C functions is what KeepsMeaningFunctions says (CompiledByFunctions).
-pub property-2-functions :
-    (image out answer out′ answer′ : List ℕ) (result steps n : ℕ) → 28 ≤ length answer → Compiles image out answer out′ answer′
-    → answerIn answer′ ≡ Done result steps n → KeepsMeaningFunctions image (take (4 * n) out′)
-property-2-functions = functions-keep-meaning
-
--- Property 3. Two hosts drive the C functions, each as its own list of requests says and with the machine as the request before left it (Session).
--- Where the lists are alike, an onlooker sees the same at every turn of the two sessions (SameSessions).
-pub property-3-functions :
-    (cells cells′ : List ℕ) (requests requests′ : List Request) (responses responses′ : List Response) → length cells ≡ length cells′
-    → AlikeLists (empty cells) requests requests′ → Session (empty cells) requests responses → Session (empty cells′) requests′ responses′
-    → SameSessions (empty cells) requests responses responses′
-property-3-functions cells cells′ requests requests′ responses responses′ e alike s t =
-    same-sessions (property-3 cells cells′ requests requests′ e alike) s t
+pub functions : Functions
+functions =
+    record {
+      checks = λ image answer answer′ room a. check-read answer answer′ room (checkBytes image) a;
+      compiles = λ image out answer out′ answer′ room (o, a). compile-read answer answer′ room (compileBytes image out) out′ o a;
+      loads = λ image cells answer cells′ answer′ room (c, a). request-read answer answer′ room (loadBytes image cells) cells′ c a;
+      clears = λ image cells answer cells′ answer′ room (c, a). request-read answer answer′ room (clearBytes image cells) cells′ c a;
+      pokes = λ image cells a i v answer cells′ answer′ room (c, b). request-read answer answer′ room (pokeBytes image cells a i v) cells′ c b;
+      peeks = λ image cells a i answer answer′ room (c, b). request-read answer answer′ room (peekBytes image cells a i) cells c b;
+      calls = λ image cells f arguments budget trace answer cells′ trace′ answer′ room (c, t, a).
+          call-read answer answer′ room (callBytes image cells f arguments budget trace) cells′ trace′ c t a;
+    }

@@ -13,9 +13,9 @@ use Rattle.readback.specs.Like.{LikeExpression, like-constant, like-boolean, li
 use Rattle.readback.specs.Like.{like-binary, like-select, LikeAll, like-none, like-more, LikeStatement, like-assign}
 use Rattle.readback.specs.Like.{like-store, like-conditional, like-loop, like-return, like-call, LikeBlock, like-done}
 use Rattle.readback.specs.Like.{like-step, LikeProcedure, LikeProcedures, like-empty, like-next, LikeImage}
-use Rattle.laws.specs.Fits.{FitsStatement, fit-assign, fit-store, fit-conditional, fit-loop, fit-return, fit-call}
-use Rattle.laws.specs.Fits.{FitsBlock, fit-block, FitsStatements, fit-done, fit-sequence, FitsProcedure, FitsProcedures}
-use Rattle.laws.specs.Fits.{no-procedures, more-procedures, arityOf, FitsImage}
+use Rattle.statements.specs.Limits.{FitsStatement, fit-assign, fit-store, fit-conditional, fit-loop, fit-return, fit-call}
+use Rattle.statements.specs.Limits.{FitsBlock, fit-block, FitsStatements, fit-done, fit-sequence, FitsProcedure, FitsProcedures}
+use Rattle.statements.specs.Limits.{no-procedures, more-procedures, arityOf, FitsImage}
 use Rattle.preservation.specs.Erasure.{erasedExpression, erasedExpressions, erasedStatement, erasedBlock}
 use Rattle.preservation.specs.Erasure.{erasedProcedure, erasedProcedures, erasedImage}
 use Rattle.preservation.specs.WellRead.{countedStatement, countedBlock, wellReadProcedure, wellReadProcedures, wellRead}
@@ -80,7 +80,7 @@ module _ (ps : List Procedure) (me : ℕ) where
     counted-statement (fit-conditional c a b) = rw (counted-block a, counted-block b)
     counted-statement (fit-loop x f t b) = counted-block b
     counted-statement (fit-return e) = refl
-    counted-statement (fit-call {f = f} {es = es} h i j e a) = eq-eqb (length es) (procedureAt ps f .parameters) e
+    counted-statement (fit-call {f = f} {es = es} h j e a) = eq-eqb (length es) (procedureAt ps f .parameters) e
 
     counted-block : {l : ℕ} {b : Block} → FitsBlock (arityOf ps) me l b → countedBlock ps b ≡ true
     counted-block (fit-block b) = counted-statements b

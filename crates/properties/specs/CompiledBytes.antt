@@ -1,128 +1,130 @@
--- The same as Compiled for a host, which lends bytes: "A C host drives it with numbers and byte slices, four bytes a word".
--- Assumes nothing.
-use Prim.Native.Nat.{ℕ, _*_, _%_, _/_, _^_}
+-- Property 2: what the compiler wrote, beside its source, for a host that lends bytes. It is accepted, in form 1 and over the same arrays; it loads
+-- over the same cells, all of them 0 then; and it ends as its source ends. Assumes nothing.
+use Prim.Native.Nat.{ℕ, _*_, _%_, _≤_}
 use mathlib.Core.Bool.{true}
-use mathlib.Core.List.{List, [], _∷_, _++_, append-assoc}
-use mathlib.Core.Path.{_≡_, refl, sym, ap, _∙_}
+use mathlib.Core.List.{List, [], _∷_, _++_, append-assoc, append-nil}
+use mathlib.Core.Path.{_≡_, sym, ap, _∙_}
 use native.Mathlib.Omega.{arith}
-use lib.ListN.{length, take, drop, take-append-drop}
-use lib.Seq.{take-at}
 use borrow.Author.Tests.{eq-eqb}
-use Rattle.definitions.specs.Bytes.{joined, wordsOf, bytesOf, lent}
+use lib.Dec.{eqb}
+use lib.ListN.{length, take, drop}
+use lib.Seq.{take-at}
+use Rattle.definitions.specs.Choice.{pick}
+use Rattle.definitions.specs.Bytes.{Bytes, wordsOf, bytesOf, lent}
+use Rattle.definitions.specs.declared.Answer.the-variants.{Done}
 use Rattle.definitions.specs.declared.Checked.the-variants.{Accepted}
 use Rattle.definitions.specs.declared.Compiled.the-variants.{Written}
-use Rattle.definitions.specs.Image.{Image}
-use Rattle.definitions.specs.Reading.{got, readImage}
-use Rattle.definitions.specs.Compiling.{compiled}
-use Rattle.definitions.specs.Requests.{Called}
+use Rattle.definitions.specs.Image.{Image, procedureAt, cellCount}
+use Rattle.definitions.specs.Encoding.{imageWords}
+use Rattle.definitions.specs.Reading.{readImage}
+use Rattle.definitions.specs.Compiling.{compiledImage}
+use Rattle.definitions.specs.Requests.{Called, call}
 use Rattle.definitions.specs.Host.{wholeWords, checkBytes, compileBytes, loadBytes, clearBytes, pokeBytes, peekBytes}
 use Rattle.definitions.specs.Host.{callBytes}
-use Rattle.properties.specs.Compiled.{Begun, done, stopped, SameEnd, both-done, both-stopped, both-refused}
-use Rattle.properties.specs.Compiled.{source-out, compiled-out, withGuard, KeepsMeaning, written-count}
-use Rattle.properties.specs.Compiled.{compiled-keeps-meaning}
-
--- ---- The statement
-
--- The bytes of a source and those of its compiled form.
-pub record KeepsMeaningBytes (image target-image : List ℕ) : Type 0 where
-  -- the source is accepted, and is in form 0
-  pub source : Image
-  pub source-read : readImage (wholeWords image) (wordsOf image) ≡ got source (length (wordsOf image))
-  pub source-accepted : checkBytes image ≡ Accepted
-  pub source-form : source .form ≡ 0
-  -- the compiled image is accepted, and is in form 1, over the same arrays
-  pub target : Image
-  pub target-read : readImage (wholeWords target-image) (wordsOf target-image) ≡ got target (length (wordsOf target-image))
-  pub target-accepted : checkBytes target-image ≡ Accepted
-  pub target-form : target .form ≡ 1
-  pub same-arrays : target .arrays ≡ source .arrays
-  -- a call of any procedure with any arguments, on equal cells, under any two budgets and with any two lent traces
-  pub calls :
-      (cells : List ℕ) (f : ℕ) (arguments arguments′ : List ℕ) (budget budget′ : ℕ) (trace trace′ : List ℕ)
-      → wordsOf arguments′ ≡ withGuard source f (wordsOf arguments)
-      → SameEnd (callBytes image cells f arguments budget trace) (callBytes target-image cells f arguments′ budget′ trace′)
-  -- every other request has the same answer and leaves the same cells
-  pub loads : (cells : List ℕ) → loadBytes target-image cells ≡ loadBytes image cells
-  pub clears : (cells : List ℕ) → clearBytes target-image cells ≡ clearBytes image cells
-  pub pokes : (cells : List ℕ) (a i v : ℕ) → pokeBytes target-image cells a i v ≡ pokeBytes image cells a i v
-  pub peeks : (cells : List ℕ) (a i : ℕ) → peekBytes target-image cells a i ≡ peekBytes image cells a i
-
--- ---- The proof
+use Rattle.statements.specs.Statements.{AdmissibleBytes, cleared, EndAlike, withGuard, SameMeaning}
+use Rattle.words.proofs.Laws.{length-bytesOf, bytesOf-append, words-first}
+use Rattle.laws.specs.Parses.{got-same}
+use Rattle.laws.specs.Admitted.{admit, admitted-read}
+use Rattle.readback.specs.Like.{LikeImage}
+use Rattle.readback.specs.Accepted.{like-at}
+use Rattle.readback.specs.Conclusion.{ReadBack, read-back, compiled-accepted}
+use Rattle.readback.specs.Cells.{same-load, same-clear, same-poke, same-peek}
+use Rattle.readback.specs.Output.{Wrote, wrote}
+use Rattle.results.specs.Accepted.{admitted-admissible, admissible-admitted}
+use Rattle.results.specs.Exactly.{load-is-done}
+use Rattle.properties.specs.Compiled.{no-fault, same-calls}
 
 -- what is lent as bytes, from what a call on words gives
 abbrev inBytes : List ℕ → List ℕ → Called → Called
 inBytes cells trace r = (r .0, lent cells (r .1), lent trace (r .2))
 
-begun-bytes : {x : Called} (cells trace : List ℕ) → Begun x → Begun (inBytes cells trace x)
-begun-bytes cells trace done = done
-begun-bytes cells trace stopped = stopped
-
-same-bytes : {x y : Called} (cells trace trace′ : List ℕ) → SameEnd x y → SameEnd (inBytes cells trace x) (inBytes cells trace′ y)
-same-bytes cells trace trace′ both-done = both-done
-same-bytes cells trace trace′ (both-stopped b) = both-stopped b
-same-bytes cells trace trace′ both-refused = both-refused
-same-bytes cells trace trace′ (source-out o b) = source-out o (begun-bytes cells trace′ b)
-same-bytes cells trace trace′ (compiled-out o b) = compiled-out o (begun-bytes cells trace b)
-
-module _ (image target-image words : List ℕ) (spelled : wordsOf target-image ≡ words) (whole : wholeWords target-image ≡ true)
-    (k : KeepsMeaning (wholeWords image) (wordsOf image) words) where
-  keeps-bytes : KeepsMeaningBytes image target-image
-  unfolding checkBytes loadBytes clearBytes pokeBytes peekBytes callBytes
-  keeps-bytes =
-      record {
-        source = k .source;
-        source-read = k .source-read;
-        source-accepted = k .source-accepted;
-        source-form = k .source-form;
-        target = k .target;
-        target-read = rw (whole, spelled) (k .target-read);
-        target-accepted = rw (whole, spelled) (k .target-accepted);
-        target-form = k .target-form;
-        same-arrays = k .same-arrays;
-        calls = λ cells f arguments arguments′ budget budget′ trace trace′ e.
-            rw (whole, spelled, e)
-            (same-bytes cells trace trace′ (k .calls (wordsOf cells) f (wordsOf arguments) budget budget′ (length (wordsOf trace)) (length (wordsOf trace′))));
-        loads = λ cells. rw (whole, spelled, k .loads (wordsOf cells));
-        clears = λ cells. rw (whole, spelled, k .clears (wordsOf cells));
-        pokes = λ cells a i v. rw (whole, spelled, k .pokes (wordsOf cells) a i v);
-        peeks = λ cells a i. rw (whole, spelled, k .peeks (wordsOf cells) a i);
-      }
+lent-alike : (x y : Called) (cells trace trace′ : List ℕ) → EndAlike x y → EndAlike (inBytes cells trace x) (inBytes cells trace′ y)
+lent-alike x y cells trace trace′ (r, h) = (r, λ a b. (h a b .0, ap (lent cells) (h a b .1)))
 
 -- words written as bytes are read as those words, and are whole
 words-back : (ws : List ℕ) → wordsOf (bytesOf ws) ≡ ws
-unfolding wordsOf bytesOf
-words-back [] = refl
-words-back (w ∷ ws) = let e : joined (w / 2 ^ 24) (w / 2 ^ 16 % 256) (w / 2 ^ 8 % 256) (w % 256) ≡ w = omega arith in rw (e, words-back ws)
-
-byte-count : (ws : List ℕ) → length (bytesOf ws) ≡ 4 * length ws
-unfolding bytesOf
-byte-count [] = refl
-byte-count (w ∷ ws) = rw (byte-count ws) (omega arith)
+unfolding wordsOf
+words-back ws = ap wordsOf (sym (append-nil (bytesOf ws))) ∙ words-first ws [] ∙ append-nil ws
 
 whole-bytes : (ws : List ℕ) → wholeWords (bytesOf ws) ≡ true
-whole-bytes ws = let e = byte-count ws in eq-eqb (length (bytesOf ws) % 4) 0 (omega arith)
-
-joined-bytes : (ws rest : List ℕ) → bytesOf (ws ++ rest) ≡ bytesOf ws ++ bytesOf rest
-unfolding bytesOf
-joined-bytes [] rest = refl
-joined-bytes (w ∷ ws) rest = rw (joined-bytes ws rest)
+whole-bytes ws = let e = length-bytesOf ws in eq-eqb (length (bytesOf ws) % 4) 0 (omega arith)
 
 -- the first bytes of a lent slice are those of the first words that were written there
-first-bytes : (out ws : List ℕ) (n : ℕ) → length (take n ws) ≡ n → take (4 * n) (lent out ws) ≡ bytesOf (take n ws)
+first-bytes : (out ws rest : List ℕ) (n : ℕ) → length ws ≡ n → take (4 * n) (lent out (ws ++ rest)) ≡ bytesOf ws
 unfolding lent
-first-bytes out ws n e =
-    ap (λ (bytes : List ℕ). take (4 * n) (bytes ++ drop (4 * length ws) out)) (ap bytesOf (sym (take-append-drop n ws)) ∙ joined-bytes (take n ws) (drop n ws))
-    ∙ ap (take (4 * n)) (append-assoc (bytesOf (take n ws)) (bytesOf (drop n ws)) (drop (4 * length ws) out))
-    ∙ take-at (bytesOf (take n ws)) (bytesOf (drop n ws) ++ drop (4 * length ws) out) (4 * n) (byte-count (take n ws) ∙ ap (λ (m : ℕ). 4 * m) e)
+first-bytes out ws rest n e =
+    ap (λ (bytes : List ℕ). take (4 * n) (bytes ++ drop (4 * length (ws ++ rest)) out)) (bytesOf-append ws rest)
+    ∙ ap (take (4 * n)) (append-assoc (bytesOf ws) (bytesOf rest) (drop (4 * length (ws ++ rest)) out))
+    ∙ take-at (bytesOf ws) (bytesOf rest ++ drop (4 * length (ws ++ rest)) out) (4 * n) (length-bytesOf ws ∙ ap (λ (m : ℕ). 4 * m) e)
 
--- Where the compiler answers that it wrote n words, the first 4 × n bytes of its output keep the source's meaning.
-pub compiled-bytes-keep-meaning :
-    (image out : List ℕ) (n : ℕ) → compileBytes image out .0 ≡ Written n
-    → KeepsMeaningBytes image (take (4 * n) (compileBytes image out .1))
-unfolding compileBytes
-compiled-bytes-keep-meaning image out n e =
-    let r : List ℕ = compiled (wholeWords image) (wordsOf image) (wordsOf out) .1 in
-    let first = first-bytes out r n (written-count (wholeWords image) (wordsOf image) (wordsOf out) n e) in
-    keeps-bytes image (take (4 * n) (lent out r)) (take n r)
-    (ap wordsOf first ∙ words-back (take n r)) (ap wholeWords first ∙ whole-bytes (take n r))
-    (compiled-keeps-meaning (wholeWords image) (wordsOf image) (wordsOf out) n e)
+-- Where the compiler answers that it wrote n words, and the given tree is spelled by the source.
+module _ (image out : List ℕ) (n : ℕ) (e : compileBytes image out .0 ≡ Written n) where
+  abbrev target : List ℕ
+  target = take (4 * n) (compileBytes image out .1)
+
+  w : Wrote (wholeWords image) (wordsOf image) (wordsOf out) n
+  unfolding compileBytes
+  w = wrote (wholeWords image) (wordsOf image) (wordsOf out) n e
+
+  abbrev code : List ℕ
+  code = imageWords (compiledImage (w .source))
+
+  back : ReadBack (w .source)
+  back = read-back (w .source) (w .sound) (w .fitting)
+
+  bytes : target ≡ bytesOf code
+  unfolding compileBytes
+  bytes = ap (λ (x : List ℕ). take (4 * n) (lent out x)) (w .output) ∙ first-bytes out code (drop n (wordsOf out)) n (w .count)
+
+  spelled : wordsOf target ≡ code
+  spelled = ap wordsOf bytes ∙ words-back code
+
+  whole : wholeWords target ≡ true
+  whole = ap wholeWords bytes ∙ whole-bytes code
+
+  pub target-accepted : checkBytes target ≡ Accepted
+  unfolding checkBytes
+  target-accepted = rw (whole, spelled) (compiled-accepted (w .source) (w .sound) (w .fitting))
+
+  module _ (tree : Image) (a : AdmissibleBytes image tree) where
+    -- the tree that is read is the given one, up to places
+    like : LikeImage tree (w .source)
+    like =
+        let (read, m, q, l) = admissible-admitted (wholeWords image) (wordsOf image) tree a in
+        let same : read ≡ w .source =
+        got-same (readImage (wholeWords image) (wordsOf image)) read (w .source) m (w .place)
+        (admitted-read (wholeWords image) (wordsOf image) read m q .0) (w .reading) .0 in
+        rw same at l
+
+    guard : (f : ℕ) (ws : List ℕ) → withGuard (procedureAt (tree .procedures) f) ws ≡ withGuard (procedureAt (w .source .procedures) f) ws
+    guard f ws = ap (λ (m : ℕ). ws ++ pick (eqb m 1) (1 ∷ []) []) (like-at (like .procedures) f .modes)
+
+    pub target-tree : (t : Image) × AdmissibleBytes target t × (t .form ≡ 1) × (t .arrays ≡ tree .arrays)
+    target-tree =
+        let read = admit true code (back .tree) (length code) (back .reading) (back .faultless) in
+        (back .tree, rw (whole, spelled) (admitted-admissible true code (back .tree) (length code) read), back .in-form, back .same-arrays ∙ sym (like .arrays))
+
+    pub same-meaning : SameMeaning image tree target
+    unfolding loadBytes clearBytes pokeBytes peekBytes callBytes
+    same-meaning =
+        let known = no-fault (wholeWords image) (wordsOf image) (wordsOf out) n w in
+        record {
+          calls = λ cells f arguments arguments′ budget budget′ trace trace′ g.
+              rw (whole, spelled, g, guard f (wordsOf arguments))
+              (lent-alike
+              (call (wholeWords image) (wordsOf image) (wordsOf cells) f (wordsOf arguments) budget (length (wordsOf trace)))
+              (call true code (wordsOf cells) f (withGuard (procedureAt (w .source .procedures) f) (wordsOf arguments)) budget′ (length (wordsOf trace′)))
+              cells trace trace′
+              (same-calls (wholeWords image) (wordsOf image) (wordsOf out) n w back (wordsOf cells) f (wordsOf arguments)
+              budget budget′ (length (wordsOf trace)) (length (wordsOf trace′))));
+          loads = λ cells. rw (whole, spelled, same-load (wholeWords image) (wordsOf image) (w .source) (w .place) (w .reading) known back (wordsOf cells));
+          clears = λ cells. rw (whole, spelled, same-clear (wholeWords image) (wordsOf image) (w .source) (w .place) (w .reading) known back (wordsOf cells));
+          pokes = λ cells b i v.
+              rw (whole, spelled, same-poke (wholeWords image) (wordsOf image) (w .source) (w .place) (w .reading) known back (wordsOf cells) b i v);
+          peeks = λ cells b i.
+              rw (whole, spelled, same-peek (wholeWords image) (wordsOf image) (w .source) (w .place) (w .reading) known back (wordsOf cells) b i);
+        }
+
+    pub target-loads : (cells : List ℕ) → Bytes cells → 4 * cellCount (tree .arrays) ≤ length cells
+        → loadBytes target cells ≡ (Done 0 0 0, cleared (cellCount (tree .arrays)) cells)
+    target-loads cells are h = same-meaning .loads cells ∙ load-is-done image cells are tree (record { admissible = a; enough = h })

@@ -9,25 +9,19 @@ use lib.Dec.{ltb, eqb}
 use lib.ListN.{length}
 use borrow.Author.Tests.{ltb-true, eqb-true, eqb-false, eq-eqb, ne-eqb}
 use Rattle.definitions.specs.Choice.{pick}
-use Rattle.definitions.specs.declared.Answer.{Answer}
-use Rattle.definitions.specs.declared.Answer.the-variants.{Done, Stopped, Refused}
+use Rattle.definitions.specs.declared.Answer.the-variants.{Refused}
 use Rattle.definitions.specs.Image.{Procedure, Image, procedureAt}
 use Rattle.definitions.specs.Compiling.{guards, compiledProcedure, compiledImage}
 use Rattle.definitions.specs.Running.{traceWords, Ran, on, halt, Given, gave, runProcedure}
 use Rattle.definitions.specs.Requests.{Called, argumentValues, ended, calledOn}
 use Rattle.readback.specs.Like.{LikeImage}
 use Rattle.readback.specs.Accepted.{like-at}
-use Rattle.preservation.specs.Preservation.{compiled-at, withGuard}
+use Rattle.statements.specs.Statements.{isRefused, withGuard}
+use Rattle.preservation.specs.Preservation.{compiled-at}
 use Rattle.preservation.specs.Calls.{same-count, guard-count}
 use Rattle.properties.specs.Bridge.{same-image}
 
--- whether an answer is a refusal
-abbrev pub refusal : Answer → Bool
-refusal (Done v z n) = false
-refusal (Stopped k p z n) = false
-refusal (Refused k p) = true
-
-run-answered : (p : Procedure) (cells : List ℕ) (x : Ran (List ℕ) Given) → refusal (ended p cells x .0) ≡ false
+run-answered : (p : Procedure) (cells : List ℕ) (x : Ran (List ℕ) Given) → isRefused (ended p cells x .0) ≡ false
 unfolding ended
 run-answered p cells (on (gave v after) z t) = refl
 run-answered p cells (halt n l z t) = refl
@@ -35,7 +29,7 @@ run-answered p cells (halt n l z t) = refl
 -- by whether there is such a procedure, and whether the number of arguments is right
 call-refusal :
     (image : Image) (cells : List ℕ) (f : ℕ) (arguments : List ℕ) (budget room : ℕ)
-    → refusal (calledOn image cells f arguments budget room .0)
+    → isRefused (calledOn image cells f arguments budget room .0)
     ≡ pick (ltb f (length (image .procedures))) (pick (eqb (length arguments) (procedureAt (image .procedures) f .parameters)) false true) true
 unfolding calledOn
 call-refusal image cells f arguments budget room = go (ltb f (length (image .procedures))) (eqb (length arguments) (procedureAt (image .procedures) f .parameters))
@@ -47,7 +41,7 @@ call-refusal image cells f arguments budget room = go (ltb f (length (image .pro
     given : Bool → Bool → Called
     given a b = pick a (pick b (ended (procedureAt (image .procedures) f) cells run) (Refused 18 0, cells, [])) (Refused 17 0, cells, [])
 
-    go : (a b : Bool) → refusal (given a b .0) ≡ pick a (pick b false true) true
+    go : (a b : Bool) → isRefused (given a b .0) ≡ pick a (pick b false true) true
     go true true = run-answered (procedureAt (image .procedures) f) cells run
     go true false = refl
     go false b = refl
@@ -67,8 +61,8 @@ module _ (source target : Image) (like : LikeImage (compiledImage source) target
 
   pub same-refusal :
       (cells arguments : List ℕ) (budget budget′ room room′ : ℕ)
-      → refusal (calledOn source cells f arguments budget room .0)
-      ≡ refusal (calledOn target cells f (withGuard (procedureAt (source .procedures) f) arguments) budget′ room′ .0)
+      → isRefused (calledOn source cells f arguments budget room .0)
+      ≡ isRefused (calledOn target cells f (withGuard (procedureAt (source .procedures) f) arguments) budget′ room′ .0)
   same-refusal cells arguments budget budget′ room room′ =
       call-refusal source cells f arguments budget room ∙ both (ltb f (length (source .procedures))) refl
       ∙ sym (call-refusal target cells f (withGuard (procedureAt (source .procedures) f) arguments) budget′ room′)

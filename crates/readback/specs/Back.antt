@@ -15,8 +15,9 @@ use Rattle.definitions.specs.Reading.{Parse, got, andThen, onWord, readBlock, r
 use Rattle.definitions.specs.Reading.{readArrays, readRest, readImage}
 use Rattle.definitions.specs.Encoding.{wordWith, statementCount, statementsWords, blockWords, procedureWords}
 use Rattle.definitions.specs.Encoding.{proceduresWords, imageWords}
-use Rattle.laws.specs.Fits.{AllTypes, no-types, more-types, FitsArrays, no-arrays, more-arrays, FitsProcedure}
-use Rattle.laws.specs.Fits.{FitsProcedures, no-procedures, more-procedures, arityOf, Arities, FitsImage}
+use Rattle.laws.specs.Reads.{Arities}
+use Rattle.statements.specs.Limits.{AllTypes, no-types, more-types, FitsArrays, no-arrays, more-arrays, FitsProcedure}
+use Rattle.statements.specs.Limits.{FitsProcedures, no-procedures, more-procedures, arityOf, FitsImage}
 use Rattle.laws.specs.ReadImages.{known-next}
 use Rattle.laws.specs.Spelled.{On, on-first, on-nothing, on-split, on-whole}
 use Rattle.readback.specs.Like.{LikeBlock, LikeProcedure, LikeProcedures, like-empty, like-next, LikeImage}
@@ -82,14 +83,14 @@ largest-locals form n = go (eqb form 0)
     go false h = omega arith
 
 pub back-procedure :
-    (image : List ℕ) → length image < 268435456 → (form : ℕ) (params : List ℕ) (me : ℕ) (arity : ℕ → ℕ) → Arities params me arity → (p : Procedure) → FitsProcedure form arity me p
+    (image : List ℕ) → length image < 268435456 → (form : ℕ) (params : List ℕ) (me : ℕ) → me < 256 → (arity : ℕ → ℕ) → Arities params me arity → (p : Procedure) → FitsProcedure form arity me p
     → (at next : ℕ) → On image at (procedureWords p) next → Reads (LikeProcedure p) next (readProcedure form params me image at)
 unfolding readProcedure procedureWords blockWords
-back-procedure image small form params me arity known p fit at next o =
+back-procedure image small form params me few arity known p fit at next o =
     let (a, e, n) = on-first o in
     let (a′, e′, n′) = on-first n in
     let (m, n₁, n₂) = on-split (p .types) (wordWith 5 (statementCount (p .body)) ∷ statementsWords (p .body)) n′ in
-    go m a e a′ e′ (back-types (fit .all-typed) image (at + 1 + 1) m n₁) (back-block image small params me arity known (fit .body-fits) m next n₂)
+    go m a e a′ e′ (back-types (fit .all-typed) image (at + 1 + 1) m n₁) (back-block image small params me few arity known (fit .body-fits) m next n₂)
   where
     locals : ℕ
     locals = length (p .types) - p .parameters
@@ -133,15 +134,15 @@ then-procedures image form params me p ps at m next n e r s =
 
 pub back-procedures :
     (image : List ℕ) → length image < 268435456 → (form : ℕ) (arity : ℕ → ℕ) {me : ℕ} {ps : List Procedure} → FitsProcedures form arity me ps
-    → (params : List ℕ) → Arities params me arity → me + length ps ≤ length params
+    → (params : List ℕ) → Arities params me arity → me + length ps ≤ length params → length params ≤ 32
     → (at next : ℕ) → On image at (proceduresWords ps) next → Reads (LikeProcedures ps) next (readProcedures (length ps) form params me image at)
 unfolding readProcedures proceduresWords flatMap
-back-procedures image small form arity no-procedures params known room at next o = reads (on-nothing o) like-empty
-back-procedures image small form arity (more-procedures {me} {p} {ps} e fit fits) params known room at next o =
+back-procedures image small form arity no-procedures params known room short at next o = reads (on-nothing o) like-empty
+back-procedures image small form arity (more-procedures {me} {p} {ps} e fit fits) params known room short at next o =
     let (m, n₁, n₂) = on-split (procedureWords p) (proceduresWords ps) o in
     let s = back-procedures image small form arity fits (set params me (p .parameters)) (known-next params me arity (p .parameters) (omega arith) e known)
-    (rw (length-set params me (p .parameters)) (omega arith)) m next n₂ in
-    then-procedures image form params me p ps at m next (p .parameters) refl (back-procedure image small form params me arity known p fit at m n₁) s
+    (rw (length-set params me (p .parameters)) (omega arith)) (rw (length-set params me (p .parameters)) short) m next n₂ in
+    then-procedures image form params me p ps at m next (p .parameters) refl (back-procedure image small form params me (omega arith) arity known p fit at m n₁) s
 
 abbrev packedHeader : Image → ℕ
 packedHeader i = packed 1 (i .form) (length (i .arrays)) (length (i .procedures))
@@ -175,7 +176,7 @@ back-rest i fit image small o =
     let (m, n₁, n₂) = on-split (i .arrays) (proceduresWords (i .procedures)) o in
     go m (back-arrays (fit .arrays-fit) image 1 m n₁)
     (back-procedures image small (i .form) (arityOf (i .procedures)) (fit .procedures-fit) (replicate 32 0) (λ f h. absurd (omega arith))
-    (rw (length-replicate {A = ℕ} 32 0, zero-add) (fit .few-procedures)) m (length image) n₂)
+    (rw (length-replicate {A = ℕ} 32 0, zero-add) (fit .few-procedures)) (rw (length-replicate {A = ℕ} 32 0) (omega arith)) m (length image) n₂)
   where
     go : (m : ℕ) → Reads (λ us. us ≡ i .arrays) m (readArrays (length (i .arrays)) 0 image 1)
         → Reads (LikeProcedures (i .procedures)) (length image) (readProcedures (length (i .procedures)) (i .form) (replicate 32 0) 0 image m)

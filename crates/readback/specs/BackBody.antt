@@ -15,10 +15,11 @@ use Rattle.definitions.specs.Reading.{got, Reader, expressionAt, readExpression
 use Rattle.definitions.specs.Reading.{statementAt, readStatement, readBlock}
 use Rattle.definitions.specs.Encoding.{wordWith, constantWords, statementWordWith, expressionWords, argumentWords}
 use Rattle.definitions.specs.Encoding.{statementCount, statementWords, statementsWords}
-use Rattle.laws.specs.Fits.{FitsExpression, fit-constant, fit-boolean, fit-variable, fit-cell, fit-unary, fit-binary}
-use Rattle.laws.specs.Fits.{fit-select, FitsAll, fit-none, fit-more, FitsStatement, fit-assign, fit-store}
-use Rattle.laws.specs.Fits.{fit-conditional, fit-loop, fit-return, fit-call, FitsBlock, fit-block, FitsStatements}
-use Rattle.laws.specs.Fits.{fit-done, fit-sequence, Arities}
+use Rattle.laws.specs.Reads.{Arities}
+use Rattle.statements.specs.Limits.{FitsExpression, fit-constant, fit-boolean, fit-variable, fit-cell, fit-unary, fit-binary}
+use Rattle.statements.specs.Limits.{fit-select, FitsAll, fit-none, fit-more, FitsStatement, fit-assign, fit-store}
+use Rattle.statements.specs.Limits.{fit-conditional, fit-loop, fit-return, fit-call, FitsBlock, fit-block, FitsStatements}
+use Rattle.statements.specs.Limits.{fit-done, fit-sequence}
 use Rattle.laws.specs.Spelled.{On, on-first, on-nothing, on-split, on-length}
 use Rattle.readback.specs.Like.{LikeExpression, like-constant, like-boolean, like-variable, like-cell, like-unary}
 use Rattle.readback.specs.Like.{like-binary, like-select, LikeAll, like-none, like-more, LikeStatement}
@@ -169,7 +170,7 @@ module _ (operand : Reader Expression) (block : Reader Block) (params : List ℕ
       rw (e, op-of 5 (f * 256 + x) (omega arith) (omega arith), called-of f x h g, result-of f x h g) (reads-then r (λ j k q z. reads q (like-call z)))
 
 -- Statements and blocks of the procedure numbered `me`, in an image whose length a count can hold.
-module _ (image : List ℕ) (small : length image < 268435456) (params : List ℕ) (me : ℕ) (arity : ℕ → ℕ) (known : Arities params me arity) where
+module _ (image : List ℕ) (small : length image < 268435456) (params : List ℕ) (me : ℕ) (few : me < 256) (arity : ℕ → ℕ) (known : Arities params me arity) where
   mutual
     unfolding readStatement readBlock readStatements statementWords statementsWords statementCount
 
@@ -211,7 +212,8 @@ module _ (image : List ℕ) (small : length image < 268435456) (params : List �
         let r = back-expression e image (at + 1) next n in
         reads-word image at (statementWordWith 4 0) (λ z. statementWord me z) a w (return-word me)
         (λ u q. return-at (λ z. readExpression l image z) (λ z. readBlock l params me image z) params at u q r)
-    back-statement (fit-call {l} {f} {x} {es} low h g count fs) at next o =
+    back-statement (fit-call {l} {f} {x} {es} low g count fs) at next o =
+        let h : f < 256 = omega arith in
         let (a, w, n) = on-first o in
         let r = back-arguments fs image (at + 1) next n in
         let same : length es ≡ getD params f 0 = count ∙ sym (known f low) in

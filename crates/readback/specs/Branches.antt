@@ -18,7 +18,7 @@ use Rattle.definitions.specs.Compiling.{secretBoolean, renamed, moved, act, ifT
 use Rattle.definitions.specs.Compiling.{blockTemporaries, compiledIf, compiledStatement, compiledBlock}
 use Rattle.laws.specs.Tests.{false-true, or-fails-left, or-fails-right, or-left, or-right, nil-left, nil-right, kept}
 use Rattle.laws.specs.Spelled.{On, on-first, on-split, on-end}
-use Rattle.laws.specs.Fits.{FitsExpression}
+use Rattle.statements.specs.Limits.{FitsExpression}
 use Rattle.readback.specs.Good.{GoodExpression, good-unary, good-conditional, good-loop, good-done, good-step}
 use Rattle.readback.specs.Renaming.{Marked, marked-set}
 use Rattle.readback.specs.Setting.{rc-block-stays, Setting, inside-room, beyond, sort-moved, secret-moved}

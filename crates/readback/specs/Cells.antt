@@ -14,7 +14,7 @@ use Rattle.definitions.specs.Encoding.{imageWords}
 use Rattle.definitions.specs.Compiling.{compiledImage}
 use Rattle.definitions.specs.Requests.{ready, unready, readyToLoad, readyToServe, Served, served, carriedOut, load}
 use Rattle.definitions.specs.Requests.{clear, poke, peek, calledOn, servedCall, call}
-use Rattle.readback.specs.Calls.{lentEnough, ready-tree, compiled-loads, compiled-ready}
+use Rattle.readback.specs.Ready.{lentEnough, ready-tree, compiled-loads, compiled-ready}
 use Rattle.readback.specs.Conclusion.{ReadBack}
 
 -- an image that was read has words

@@ -18,7 +18,6 @@ use Rattle.definitions.specs.Labels.{imageLabelFaults}
 use Rattle.definitions.specs.Checking.{faultOf, withoutFault, verdict, checked, admitted}
 use Rattle.definitions.specs.Encoding.{imageWords}
 use Rattle.definitions.specs.Compiling.{compiledImage, fitLocals, fits}
-use Rattle.definitions.specs.Running.{traceWords, runProcedure}
 use Rattle.laws.specs.Tests.{and-left, and-right, nil-both}
 use Rattle.laws.specs.Faultless.{faultless, no-fault-of}
 use Rattle.laws.specs.ReadImages.{open-image}
@@ -27,7 +26,6 @@ use Rattle.readback.specs.Parses.{Reads, reads, reads-map}
 use Rattle.readback.specs.Back.{back-image}
 use Rattle.readback.specs.Good.{GoodBlock}
 use Rattle.readback.specs.Accepted.{like-marks, good-block-sorts, good-block-labels}
-use Rattle.readback.specs.Parallel.{Parallel, parallel-procedure}
 use Rattle.readback.specs.Whole.{GoodProcedure, GoodProcedures, good-empty, good-next, Sound, image-good}
 use Rattle.readback.specs.Whole.{image-compiled-fits}
 
@@ -147,11 +145,3 @@ made image s (reads {a = j} {n} e l) r =
 
 pub read-back : (image : Image) → Sound image → fits (compiledImage image) ≡ true → ReadBack image
 read-back image s h = made image s (compiled-reads image s h) refl
-
--- Runs of the tree that was read back are parallel to runs of the compiled tree.
-pub read-back-runs :
-    (image : Image) (r : ReadBack image) (room budget n f : ℕ) (ws : List ℕ) (z : ℕ) (t u cs : List ℕ) → length t ≡ length u
-    → Parallel (runProcedure (traceWords room) budget (image .arrays) (compiledImage image .procedures) n f ws z t cs)
-    (runProcedure (traceWords room) budget (r .tree .arrays) (r .tree .procedures) n f ws z u cs)
-read-back-runs image r room budget n f ws z t u cs e =
-    rw (r .same-arrays) (parallel-procedure room budget (image .arrays) (compiledImage image .procedures) (r .tree .procedures) (r .like .procedures) n f ws z t u cs e)

@@ -18,7 +18,7 @@ use Rattle.definitions.specs.Compiling.{secretBoolean, secretOf, renamed, callT
 use Rattle.definitions.specs.Compiling.{blockTemporaries, defers, guards, returnVariable, firstMoved, compiledTypes}
 use Rattle.definitions.specs.Compiling.{compiledProcedure, compiledProcedures}
 use Rattle.laws.specs.Spelled.{On, on-whole}
-use Rattle.laws.specs.Fits.{AllTypes, no-types, more-types}
+use Rattle.statements.specs.Limits.{AllTypes, no-types, more-types}
 use Rattle.readback.specs.Renaming.{Fresh, renamed-le}
 use Rattle.readback.specs.Setting.{Callee}
 

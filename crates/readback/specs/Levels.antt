@@ -11,10 +11,10 @@ use Rattle.definitions.specs.Labels.{secretIn, rcAfter, rcAfterBlock}
 use Rattle.definitions.specs.Compiling.{renamed, moved, movedAll, act, masked, under, followedBy, temporaries}
 use Rattle.definitions.specs.Compiling.{blockTemporaries, compiledIf, compiledReturn, compiledCall, compiledStatement}
 use Rattle.definitions.specs.Compiling.{compiledBlock, closed}
-use Rattle.laws.specs.Fits.{FitsExpression, fit-constant, fit-boolean, fit-variable, fit-cell, fit-unary, fit-binary}
-use Rattle.laws.specs.Fits.{fit-select, FitsAll, fit-none, fit-more, FitsStatement, fit-assign, fit-store}
-use Rattle.laws.specs.Fits.{fit-conditional, fit-loop, fit-return, fit-call, FitsBlock, fit-block, FitsStatements}
-use Rattle.laws.specs.Fits.{fit-done, fit-sequence, arityOf}
+use Rattle.statements.specs.Limits.{FitsExpression, fit-constant, fit-boolean, fit-variable, fit-cell, fit-unary, fit-binary}
+use Rattle.statements.specs.Limits.{fit-select, FitsAll, fit-none, fit-more, FitsStatement, fit-assign, fit-store}
+use Rattle.statements.specs.Limits.{fit-conditional, fit-loop, fit-return, fit-call, FitsBlock, fit-block, FitsStatements}
+use Rattle.statements.specs.Limits.{fit-done, fit-sequence, arityOf}
 use Rattle.readback.specs.Good.{GoodExpression, good-constant, good-boolean, good-variable, good-cell, good-unary}
 use Rattle.readback.specs.Good.{good-binary, good-select, GoodArguments, good-none, good-more, GoodStatement}
 use Rattle.readback.specs.Good.{good-assign, good-store, good-conditional, good-loop, good-return, good-call}
@@ -173,7 +173,7 @@ module _ (ps : List Procedure) (arrays types : List ℕ) (first rv : ℕ) (arity
         (deep-compiled g pc arm (rcAfterBlock types arrays pc rc b) k)) deep-done
     deep-statement (fit-return {e = e} f) pc arm rc k =
         deep-return-parts (pc || rc) (act pc arm rc (rv + 1)) rv (moved first e) (deep-act pc arm rc (rv + 1)) (raise (raise (deep-moved first f)))
-    deep-statement (fit-call {f = f} {x} {es} low h g count fs) pc arm rc k =
+    deep-statement (fit-call {f = f} {x} {es} low g count fs) pc arm rc k =
         deep-call-parts (pc || rc) (guarded (procedureAt ps f)) (act pc arm rc (rv + 1)) first k f (renamed first x) (deep-act pc arm rc (rv + 1)) fs
 
     pub deep-compiled :
@@ -221,7 +221,7 @@ module _ (ps : List Procedure) (me parameters : ℕ) (types : List ℕ) (result 
     good-deep-statement (deep-conditional c b d) (good-conditional g s l x y) = fit-conditional (good-deep t a g c) (good-deep-block b x) (good-deep-block d y)
     good-deep-statement (deep-loop {x = x} f u b) (good-loop h r g g′ s s′ l l′ z) = fit-loop {x = x} (omega arith) (good-deep t a g f) (good-deep t a g′ u) (good-deep-block b z)
     good-deep-statement (deep-return e) (good-return g s l) = fit-return (good-deep t a g e)
-    good-deep-statement (deep-call {f = f} {x} es) (good-call low h m s l c g) = fit-call {f = f} {x = x} low (omega arith) (omega arith) c (good-deep-all t a g es)
+    good-deep-statement (deep-call {f = f} {x} es) (good-call low h m s l c g) = fit-call {f = f} {x = x} low (omega arith) c (good-deep-all t a g es)
 
     pub good-deep-block : {marks : List ℕ} {l : ℕ} {b : Block} → DeepBlock l b → GoodBlock ps me parameters types result arrays marks b → FitsBlock (arityOf ps) me l b
     good-deep-block (deep-block b) g = fit-block (good-deep-statements b g)

@@ -9,6 +9,8 @@ pub mod Back
 pub mod Clean
 pub mod Good
 pub mod Accepted
+pub mod LikeFaults
+pub mod LikeCompiled
 -- A source without a fault is compiled to such a tree
 pub mod Source
 pub mod Renaming
@@ -21,10 +23,8 @@ pub mod Passing
 pub mod Survive
 pub mod Layout
 pub mod Whole
--- Runs do not see places
-pub mod Parallel
 -- What follows for the compiled words
 pub mod Conclusion
-pub mod Calls
+pub mod Ready
 pub mod Output
 pub mod Cells

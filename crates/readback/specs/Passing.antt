@@ -20,7 +20,7 @@ use Rattle.definitions.specs.Compiling.{secretOf, renamed, movedAll, act, callT
 use Rattle.definitions.specs.Compiling.{compiledStatement}
 use Rattle.laws.specs.Tests.{false-true, and-false, nil-left, nil-right, kept}
 use Rattle.laws.specs.Spelled.{On, on-first}
-use Rattle.laws.specs.Fits.{FitsAll, fit-none, fit-more, arityOf}
+use Rattle.statements.specs.Limits.{FitsAll, fit-none, fit-more, arityOf}
 use Rattle.readback.specs.Clean.{sink, source, sorts-agree}
 use Rattle.readback.specs.Good.{GoodExpression, good-boolean, good-select, GoodArguments, good-none, good-more}
 use Rattle.readback.specs.Good.{good-assign, good-call, good-done, good-step}

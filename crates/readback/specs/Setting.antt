@@ -20,7 +20,7 @@ use Rattle.definitions.specs.Compiling.{secretBoolean, renamed, moved, act, mas
 use Rattle.definitions.specs.Compiling.{blockTemporaries, compiledStatement, compiledBlock, guards}
 use Rattle.laws.specs.Tests.{false-true, and-false, nil-left, nil-right}
 use Rattle.laws.specs.Spelled.{On}
-use Rattle.laws.specs.Fits.{FitsExpression}
+use Rattle.statements.specs.Limits.{FitsExpression}
 use Rattle.readback.specs.Clean.{sink, source, sorts-agree}
 use Rattle.readback.specs.Good.{GoodExpression, good-variable, good-binary, good-select, GoodStatement}
 use Rattle.readback.specs.Good.{good-assign, GoodBlock, good-done, good-step}

@@ -14,8 +14,8 @@ use Rattle.definitions.specs.Faults.{faultIf}
 use Rattle.definitions.specs.Sorts.{noSort, sortOf, sortIn, wrongSort, outside, sortFaults}
 use Rattle.definitions.specs.Labels.{secretIn, labelFaults, secretFault, indexFaults, operatorFaults}
 use Rattle.laws.specs.Tests.{and-left, and-right, nil-left, nil-right, kept}
-use Rattle.laws.specs.Fits.{FitsExpression, fit-constant, fit-boolean, fit-variable, fit-cell, fit-unary, fit-binary}
-use Rattle.laws.specs.Fits.{fit-select}
+use Rattle.statements.specs.Limits.{FitsExpression, fit-constant, fit-boolean, fit-variable, fit-cell, fit-unary, fit-binary}
+use Rattle.statements.specs.Limits.{fit-select}
 use Rattle.readback.specs.Clean.{sorts-agree}
 use Rattle.readback.specs.Good.{GoodExpression, good-constant, good-boolean, good-variable, good-cell, good-unary}
 use Rattle.readback.specs.Good.{good-binary, good-select}

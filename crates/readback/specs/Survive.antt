@@ -12,8 +12,8 @@ use Rattle.definitions.specs.Labels.{secretIn, statementLabelFaults, blockLabel
 use Rattle.definitions.specs.Compiling.{secretBoolean, temporaries, blockTemporaries, compiledBlock, closed}
 use Rattle.laws.specs.Tests.{and-not, nil-left, nil-right}
 use Rattle.laws.specs.Spelled.{On, on-first, on-split, on-end}
-use Rattle.laws.specs.Fits.{FitsStatement, fit-assign, fit-store, fit-conditional, fit-loop, fit-return, fit-call}
-use Rattle.laws.specs.Fits.{FitsBlock, fit-block, FitsStatements, fit-done, fit-sequence, arityOf}
+use Rattle.statements.specs.Limits.{FitsStatement, fit-assign, fit-store, fit-conditional, fit-loop, fit-return, fit-call}
+use Rattle.statements.specs.Limits.{FitsBlock, fit-block, FitsStatements, fit-done, fit-sequence, arityOf}
 use Rattle.readback.specs.Good.{good-boolean, good-return, good-done, good-step}
 use Rattle.readback.specs.Renaming.{Marked}
 use Rattle.readback.specs.Setting.{rc-block-stays, Setting, beyond, Deferred, Good′, slot-sort, followed}
@@ -52,7 +52,7 @@ module _ (here : Setting) where
     statement-survives (fit-conditional {c = c} {a} {b} f g h) = conditional-good here c a b f (block-survives g) (block-survives h)
     statement-survives (fit-loop {x = x} {f} {t} {b} h i j k) = loop-good here x f t b i j (block-survives k)
     statement-survives (fit-return {e = e} f) = return-good here e f
-    statement-survives (fit-call {f = f} {x} {es} low h g count fs) = call-good here f x es low count fs
+    statement-survives (fit-call {f = f} {x} {es} low g count fs) = call-good here f x es low count fs
 
     pub block-survives : {l : ℕ} {b : Block} → FitsBlock (arityOf ps) me l b → BlockGood here b
     block-survives (fit-block f) = statements-survive f

@@ -18,7 +18,7 @@ use Rattle.definitions.specs.Compiling.{firstTemporary, firstMoved, closed, com
 use Rattle.definitions.specs.Compiling.{compiledProcedure, compiledProcedures, compiledImage, fitLocals}
 use Rattle.laws.specs.Tests.{false-true, and-left, and-right, nil-left, nil-right}
 use Rattle.laws.specs.Spelled.{On, on-split, on-end}
-use Rattle.laws.specs.Fits.{FitsProcedure, FitsProcedures, no-procedures, more-procedures, arityOf, FitsImage}
+use Rattle.statements.specs.Limits.{FitsProcedure, FitsProcedures, no-procedures, more-procedures, arityOf, FitsImage}
 use Rattle.laws.specs.ReadImages.{procedure-fits}
 use Rattle.readback.specs.Good.{GoodBlock}
 use Rattle.readback.specs.Marks.{mark-closed, mark-block, marked-start}

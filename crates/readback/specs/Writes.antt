@@ -15,7 +15,7 @@ use Rattle.definitions.specs.Sorts.{sortOf, sortIn, ordinary, operandFaults, st
 use Rattle.definitions.specs.Labels.{secretIn, labelFaults, secretFault, indexFaults, statementLabelFaults, rcAfter}
 use Rattle.definitions.specs.Compiling.{secretBoolean, renamed, moved, act, masked, one, compiledReturn}
 use Rattle.definitions.specs.Compiling.{compiledStatement}
-use Rattle.laws.specs.Fits.{FitsExpression}
+use Rattle.statements.specs.Limits.{FitsExpression}
 use Rattle.laws.specs.Tests.{nil-left, nil-right, kept}
 use Rattle.readback.specs.Clean.{sink, source}
 use Rattle.readback.specs.Good.{GoodExpression, good-boolean, good-cell, good-select, good-assign, good-store}

@@ -24,7 +24,7 @@ use Rattle.tables.specs.Table.{arrayCountIn, arraysIn}
 use Rattle.tables.specs.Looking.{known-arrays, known-count, few-arrays}
 use Rattle.reader.specs.Left.{TablesLeft}
 use Rattle.requests.specs.LongImages.{same-read}
-use Rattle.requests.specs.Ready.{ready-refused, ready-accepted}
+use Rattle.laws.specs.Ready.{ready-refused, ready-accepted}
 use Rattle.checker.specs.Left.{passes}
 use Rattle.ready.specs.declared.Ready.{Ready}
 use Rattle.ready.specs.declared.Ready.the-variants.{Cells, Unready}

@@ -5,16 +5,15 @@ use Prim.Native.Nat.{ℕ, _*_, _≤_}
 use native.Mathlib.Omega.{arith}
 use lib.ListN.{length, take, drop, take-append-drop, length-replicate}
 use lib.Seq.{length-take-le}
-use Rattle.definitions.specs.Bytes.{wordsOf, bytesOf, lent}
+use Rattle.definitions.specs.Bytes.{Bytes, wordsOf, bytesOf, lent}
 use Rattle.definitions.specs.Image.{cellCount, Image}
 use Rattle.definitions.specs.Requests.{ready, unready, readyToLoad, readyToServe, Served, Called, served, servedCall}
 use Rattle.definitions.specs.Requests.{carriedOut, zeroed, load, clear, poke, peek, call, calledOn}
 use Rattle.definitions.specs.Host.{wholeWords, onCells, loadBytes, clearBytes, pokeBytes, peekBytes, callBytes}
 use Rattle.definitions.specs.declared.Answer.{Answer}
 use Rattle.definitions.specs.declared.Answer.the-variants.{Refused}
-use Rattle.words.proofs.Laws.{Bytes, length-wordsOf, lent-wordsOf}
+use Rattle.words.proofs.Laws.{lent-front, length-wordsOf, lent-wordsOf}
 use Rattle.requests.specs.OwnCells.{clearOn, pokeOn, peekOn}
-use Rattle.requests.specs.LentCells.{lent-front}
 use Rattle.requests.specs.SpareCells.{behind, behindCall, clear-spare, poke-spare, peek-spare, poke-long}
 use Rattle.requests.specs.SpareCells.{peek-long, Spares, call-spare}
 

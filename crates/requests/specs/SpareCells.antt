@@ -1,22 +1,22 @@
 -- Cells past the image's own play no part in a request: what it gives is what it gives on the image's own cells, with the others behind them.
 -- Assumes nothing.
-use mathlib.Core.Path.{_≡_, refl, ap, _∙_}
-use mathlib.Core.Bool.{Bool, true, false, _&&_}
+use mathlib.Core.Path.{_≡_, refl, _∙_}
+use mathlib.Core.Bool.{Bool, true, false}
 use mathlib.Core.List.{List, [], _++_}
 use Prim.Native.Nat.{ℕ, _+_, _<_}
 use native.Mathlib.Omega.{arith}
-use borrow.Author.Tests.{ltb-true}
 use lib.Dec.{ltb, eqb}
 use lib.ListN.{length, getD, set, length-set, List·getD-append}
 use lib.Seq.{set-append-left, drop-at}
 use Rattle.definitions.specs.Choice.{pick}
-use Rattle.definitions.specs.Image.{arrayLength, cellCount, baseOf, Procedure, Image, procedureAt}
+use Rattle.definitions.specs.Image.{cellCount, baseOf, Procedure, Image, procedureAt}
 use Rattle.definitions.specs.Running.{traceWords, Ran, Given}
 use Rattle.definitions.specs.Requests.{Served, Called, carriedOut, zeroed, argumentValues, ended, calledOn}
 use Rattle.definitions.specs.declared.Answer.the-variants.{Refused}
+use Rattle.laws.specs.Cells.{has-within}
 use Rattle.requests.specs.Cells.{hasCellIn}
 use Rattle.requests.specs.OwnCells.{clearOn, pokeOn, peekOn}
-use Rattle.requests.specs.SpareRuns.{cell-among, Both, both-on, both-halt, WideGiven, wide-gave, procedure-spare}
+use Rattle.requests.specs.SpareRuns.{Both, both-on, both-halt, WideGiven, wide-gave, procedure-spare}
 
 -- the answer, with the other cells behind those that are left
 abbrev pub behind : List ℕ → Served → Served
@@ -24,15 +24,6 @@ behind rest s = (s .0, s .1 ++ rest)
 
 abbrev pub behindCall : List ℕ → Called → Called
 behindCall rest s = (s .0, s .1 ++ rest, s .2)
-
--- a cell that is there is one of the image's
-pub has-within : (arrays : List ℕ) (a i : ℕ) → hasCellIn arrays a i ≡ true → baseOf arrays a + i < cellCount arrays
-has-within arrays a i t = go (ltb a (length arrays)) (ltb i (arrayLength (getD arrays a 0))) refl t
-  where
-    go : (b d : Bool) → ltb i (arrayLength (getD arrays a 0)) ≡ d → b && d ≡ true → baseOf arrays a + i < cellCount arrays
-    go true true q h = cell-among arrays a i (ltb-true i (arrayLength (getD arrays a 0)) q)
-    go true false q h = let z : _≡_ {A = ℕ} 0 1 = ap (λ (x : Bool). pick x 1 0) h in absurd (omega arith)
-    go false d q h = let z : _≡_ {A = ℕ} 0 1 = ap (λ (x : Bool). pick x 1 0) h in absurd (omega arith)
 
 pub clear-spare : (image : Image) (cs rest : List ℕ) → length cs ≡ cellCount (image .arrays)
     → _≡_ {A = Served} (carriedOut 0, zeroed image (cs ++ rest)) (behind rest (clearOn (length cs)))

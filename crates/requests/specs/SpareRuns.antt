@@ -18,13 +18,7 @@ use Rattle.definitions.specs.Running.{Trace, Evaluated, value, stop, Ran, on, h
 use Rattle.definitions.specs.Running.{indexAt, evaluate, evaluateAll, Outcome, next, back, Given, gave, Callee, Body}
 use Rattle.definitions.specs.Running.{tick, after, passes, taken, received, runStatement, runBlock, frame, finish}
 use Rattle.definitions.specs.Running.{runProcedure}
-
--- an index within an array names one of the image's cells
-pub cell-among : (arrays : List ℕ) (a j : ℕ) → j < arrayLength (getD arrays a 0) → baseOf arrays a + j < cellCount arrays
-unfolding baseOf cellCount
-cell-among [] a j h = absurd (omega arith)
-cell-among (w ∷ ws) zero j h = omega arith
-cell-among (w ∷ ws) (suc a) j h = let s = cell-among ws a j h in omega arith
+use Rattle.laws.specs.Cells.{cell-among}
 
 -- two runs that take the same steps, record the same and stop alike, and otherwise end with values that R joins
 pub data Both {T A : Type 0} (R : A → A → Type 0) : Ran T A → Ran T A → Type 0 where

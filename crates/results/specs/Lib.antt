@@ -1,7 +1,11 @@
 pub mod Named
+pub mod ArraysNamed
 pub mod Answers
 pub mod Runs
 pub mod Images
+pub mod Accepted
 pub mod Requests
-pub mod HostRequests
-pub mod Results
+pub mod Exactly
+pub mod Written
+pub mod TwoRuns
+pub mod StoppedExactly

@@ -19,10 +19,12 @@ use Rattle.laws.specs.Trees.{ExpressionPlaces, at-constant, at-boolean, at-vari
 use Rattle.laws.specs.Trees.{at-select, ExpressionsPlaces, no-expression, and-expression, StatementPlaces, in-assign}
 use Rattle.laws.specs.Trees.{in-store, in-conditional, in-loop, in-return, in-call, BlockPlaces, in-done, in-sequence}
 use Rattle.laws.specs.Trees.{ProceduresPlaces, body-places}
+use Rattle.results.specs.ArraysNamed.{ExpressionArrays, ExpressionsArrays, StatementArrays, BlockArrays}
+use Rattle.results.specs.ArraysNamed.{ProceduresArrays}
 
 -- A claim about runs over the given budget and array words: what holds of the steps and the trace wherever a run goes on, of
--- a stop's number, place, steps and trace, and of the cells. Places are as R says.
-pub record Claim {T : Type 0} (tracing : Trace T) (budget : ℕ) (arrays : List ℕ) (R : ℕ → Type 0) : Type 1 where
+-- a stop's number, place, steps and trace, and of the cells. Places are as R says, and arrays named there as N says.
+pub record Claim {T : Type 0} (tracing : Trace T) (budget : ℕ) (arrays : List ℕ) (R : ℕ → Type 0) (N : ℕ → ℕ → Type 0) : Type 1 where
   pub Going : ℕ → T → Type 0
   pub Stops : ℕ → ℕ → ℕ → T → Type 0
   pub Cells : List ℕ → Type 0
@@ -31,11 +33,12 @@ pub record Claim {T : Type 0} (tracing : Trace T) (budget : ℕ) (arrays : List 
   pub spent : (l z : ℕ) (t : T) → R l → ltb z budget ≡ false → Going z t → Stops 21 l z t
   pub recorded : (kind l v z : ℕ) (t : T) → R l → tracing .full t ≡ false → Going z t → Going z (tracing .add (kind * 268435456 + l) v t)
   pub filled : (l z : ℕ) (t : T) → R l → tracing .full t ≡ true → Going z t → Stops 22 l z t
-  pub beyond : (a l i z : ℕ) (t : T) → R l → ltb i (arrayLength (getD arrays a 0)) ≡ false
+  pub beyond : (a l i z : ℕ) (t : T) → R l → N l a → ltb i (arrayLength (getD arrays a 0)) ≡ false
       → Going z (tracing .add (4 * 268435456 + l) i t) → Stops 23 l z (tracing .add (4 * 268435456 + l) i t)
   pub divisor : (l z : ℕ) (t : T) → R l → Going z (tracing .add (6 * 268435456 + l) 0 t) → Stops 24 l z (tracing .add (6 * 268435456 + l) 0 t)
 
-module _ {T : Type 0} {tracing : Trace T} {budget : ℕ} {arrays : List ℕ} {R : ℕ → Type 0} (C : Claim tracing budget arrays R) where
+module _ {T : Type 0} {tracing : Trace T} {budget : ℕ} {arrays : List ℕ} {R : ℕ → Type 0} {N : ℕ → ℕ → Type 0}
+    (C : Claim tracing budget arrays R N) where
   -- an evaluation in a run that has taken z steps
   data Evaluates {A : Type 0} (z : ℕ) (P : A → T → Type 0) : Evaluated T A → Type 0 where
     evaluates : {a : A} {t : T} → C .Going z t → P a t → Evaluates z P (value a t)
@@ -84,14 +87,15 @@ module _ {T : Type 0} {tracing : Trace T} {budget : ℕ} {arrays : List ℕ} {R 
       go true e = stops (C .filled l z t r e g)
       go false e = evaluates (C .recorded kind l v z t r e g) (refl, refl)
 
-  indexes : (a l i z : ℕ) (t : T) → R l → C .Going z t → Evaluates z Any (indexAt tracing arrays a l i t)
+  indexes : (a l i z : ℕ) (t : T) → R l → N l a → C .Going z t → Evaluates z Any (indexAt tracing arrays a l i t)
   unfolding indexAt inArray Any
-  indexes a l i z t r g = then-evaluates (emits 4 l i z t r g) (λ j u q p. rw (p .0, p .1) (tested (rw (p .1) at q) (ltb i (arrayLength (getD arrays a 0))) refl))
+  indexes a l i z t r n g =
+      then-evaluates (emits 4 l i z t r g) (λ j u q p. rw (p .0, p .1) (tested (rw (p .1) at q) (ltb i (arrayLength (getD arrays a 0))) refl))
     where
       tested : C .Going z (tracing .add (4 * 268435456 + l) i t) → (b : Bool) → ltb i (arrayLength (getD arrays a 0)) ≡ b
           → Evaluates z Any (pick b (value i (tracing .add (4 * 268435456 + l) i t)) (stop 23 l (tracing .add (4 * 268435456 + l) i t)))
       tested q true e = evaluates q tt
-      tested q false e = stops (C .beyond a l i z t r e q)
+      tested q false e = stops (C .beyond a l i z t r n e q)
 
   operates : (l o v w z : ℕ) (t : T) → R l → C .Going z t → Evaluates z Any (operated tracing l o v w t)
   unfolding operated divided Any
@@ -108,29 +112,30 @@ module _ {T : Type 0} {tracing : Trace T} {budget : ℕ} {arrays : List ℕ} {R 
           then-evaluates (emits 5 l v z t r g) (λ a u q p. then-evaluates (emits 6 l w z u r q) (λ b x s y. rw (y .1) (tested u (rw (y .1) at s) (eqb w 0) refl)))
       go false = evaluates g tt
 
-  expression-evaluates : {e : Expression} → ExpressionPlaces R e → (vs cs : List ℕ) (z : ℕ) (t : T) → C .Going z t
+  expression-evaluates : {e : Expression} → ExpressionPlaces R e → ExpressionArrays N e → (vs cs : List ℕ) (z : ℕ) (t : T) → C .Going z t
       → Evaluates z Any (evaluate tracing arrays e vs cs t)
-  unfolding evaluate Any
-  expression-evaluates (at-constant h) vs cs z t g = evaluates g tt
-  expression-evaluates (at-boolean h) vs cs z t g = evaluates g tt
-  expression-evaluates (at-variable h) vs cs z t g = evaluates g tt
-  expression-evaluates (at-cell {p} {a} h r) vs cs z t g =
-      then-evaluates (expression-evaluates r vs cs z t g) (λ v u q _. then-evaluates (indexes a p v z u h q) (λ j x s _. evaluates s tt))
-  expression-evaluates (at-unary h r) vs cs z t g = then-evaluates (expression-evaluates r vs cs z t g) (λ v u q _. evaluates q tt)
-  expression-evaluates (at-binary {p} {o} h r s) vs cs z t g =
-      then-evaluates (expression-evaluates r vs cs z t g)
-      (λ v u q _. then-evaluates (expression-evaluates s vs cs z u q) (λ w x m _. operates p o v w z x h m))
-  expression-evaluates (at-select h r s i) vs cs z t g =
-      then-evaluates (expression-evaluates r vs cs z t g)
-      (λ b u q _. then-evaluates (expression-evaluates s vs cs z u q)
-      (λ v x m _. then-evaluates (expression-evaluates i vs cs z x m) (λ w y n _. evaluates n tt)))
+  unfolding evaluate Any ExpressionArrays
+  expression-evaluates (at-constant h) n vs cs z t g = evaluates g tt
+  expression-evaluates (at-boolean h) n vs cs z t g = evaluates g tt
+  expression-evaluates (at-variable h) n vs cs z t g = evaluates g tt
+  expression-evaluates (at-cell {p} {a} h r) n vs cs z t g =
+      then-evaluates (expression-evaluates r (n .1) vs cs z t g) (λ v u q _. then-evaluates (indexes a p v z u h (n .0) q) (λ j x s _. evaluates s tt))
+  expression-evaluates (at-unary h r) n vs cs z t g = then-evaluates (expression-evaluates r n vs cs z t g) (λ v u q _. evaluates q tt)
+  expression-evaluates (at-binary {p} {o} h r s) n vs cs z t g =
+      then-evaluates (expression-evaluates r (n .0) vs cs z t g)
+      (λ v u q _. then-evaluates (expression-evaluates s (n .1) vs cs z u q) (λ w x m _. operates p o v w z x h m))
+  expression-evaluates (at-select h r s i) n vs cs z t g =
+      then-evaluates (expression-evaluates r (n .0) vs cs z t g)
+      (λ b u q _. then-evaluates (expression-evaluates s (n .1) vs cs z u q)
+      (λ v x m _. then-evaluates (expression-evaluates i (n .2) vs cs z x m) (λ w y o _. evaluates o tt)))
 
-  all-evaluate : {es : List Expression} → ExpressionsPlaces R es → (vs cs : List ℕ) (z : ℕ) (t : T) → C .Going z t
+  all-evaluate : {es : List Expression} → ExpressionsPlaces R es → ExpressionsArrays N es → (vs cs : List ℕ) (z : ℕ) (t : T) → C .Going z t
       → Evaluates z Any (evaluateAll tracing arrays es vs cs t)
-  unfolding evaluateAll Any
-  all-evaluate no-expression vs cs z t g = evaluates g tt
-  all-evaluate (and-expression r s) vs cs z t g =
-      then-evaluates (expression-evaluates r vs cs z t g) (λ v u q _. then-evaluates (all-evaluate s vs cs z u q) (λ ws x m _. evaluates m tt))
+  unfolding evaluateAll Any ExpressionsArrays
+  all-evaluate no-expression n vs cs z t g = evaluates g tt
+  all-evaluate (and-expression r s) n vs cs z t g =
+      then-evaluates (expression-evaluates r (n .0) vs cs z t g)
+      (λ v u q _. then-evaluates (all-evaluate s (n .1) vs cs z u q) (λ ws x m _. evaluates m tt))
 
   -- ---- statements and blocks
 
@@ -173,35 +178,35 @@ module _ {T : Type 0} {tracing : Trace T} {budget : ℕ} {arrays : List ℕ} {R 
 
   module _ (K : Callee T) (k : CalleeRuns K) where
     mutual
-      unfolding runStatement runBlock
+      unfolding runStatement runBlock StatementArrays BlockArrays
 
-      statement-runs : (l : ℕ) {s : Statement} → R l → StatementPlaces R s → BodyRuns (runStatement tracing budget arrays K l s)
-      statement-runs l h (in-assign r) z t vs cs g c = then-runs (expression-evaluates r vs cs z t g) (λ v u q _. goes q c)
-      statement-runs l h (in-store {a} r s) z t vs cs g c =
-          then-runs (expression-evaluates r vs cs z t g)
-          (λ v u q _. then-runs (indexes a l v z u h q)
-          (λ j x m _. then-runs (expression-evaluates s vs cs z x m) (λ w y n _. goes n (C .stored cs _ w c))))
-      statement-runs l h (in-conditional r a b) z t vs cs g c =
-          then-runs (expression-evaluates r vs cs z t g)
+      statement-runs : (l : ℕ) {s : Statement} → R l → StatementPlaces R s → StatementArrays N l s → BodyRuns (runStatement tracing budget arrays K l s)
+      statement-runs l h (in-assign r) n z t vs cs g c = then-runs (expression-evaluates r n vs cs z t g) (λ v u q _. goes q c)
+      statement-runs l h (in-store {a} r s) n z t vs cs g c =
+          then-runs (expression-evaluates r (n .1) vs cs z t g)
+          (λ v u q _. then-runs (indexes a l v z u h (n .0) q)
+          (λ j x m _. then-runs (expression-evaluates s (n .2) vs cs z x m) (λ w y o _. goes o (C .stored cs _ w c))))
+      statement-runs l h (in-conditional r a b) n z t vs cs g c =
+          then-runs (expression-evaluates r (n .0) vs cs z t g)
           (λ v u q _. then-runs (emits 1 l (truth v) z u h q)
-          (λ d x m _. arm d _ _ (λ y w us ds o p. block-runs a y w us ds o p) (λ y w us ds o p. block-runs b y w us ds o p) z x vs cs m c))
-      statement-runs l h (in-loop {x} r s b) z t vs cs g c =
-          then-runs (expression-evaluates r vs cs z t g)
-          (λ v u q _. then-runs (expression-evaluates s vs cs z u q)
+          (λ d x m _. arm d _ _ (λ y w us ds o p. block-runs a (n .1) y w us ds o p) (λ y w us ds o p. block-runs b (n .2) y w us ds o p) z x vs cs m c))
+      statement-runs l h (in-loop {x} r s b) n z t vs cs g c =
+          then-runs (expression-evaluates r (n .0) vs cs z t g)
+          (λ v u q _. then-runs (expression-evaluates s (n .1) vs cs z u q)
           (λ w y m _. then-runs (emits 2 l v z y h m)
-          (λ i d n _. then-runs (emits 3 l w z d h n)
-          (λ j e o _. all-passes l x _ h (λ y w us ds p c′. block-runs b y w us ds p c′) (w - v) v z e vs cs o c))))
-      statement-runs l h (in-return r) z t vs cs g c =
-          then-runs (expression-evaluates r vs cs z t g) (λ v u q _. then-runs (emits 8 l 0 z u h q) (λ d x m _. goes m c))
-      statement-runs l h (in-call {f} {x} r) z t vs cs g c =
-          then-runs (all-evaluate r vs cs z t g)
+          (λ i d k _. then-runs (emits 3 l w z d h k)
+          (λ j e o _. all-passes l x _ h (λ y w us ds p c′. block-runs b (n .2) y w us ds p c′) (w - v) v z e vs cs o c))))
+      statement-runs l h (in-return r) n z t vs cs g c =
+          then-runs (expression-evaluates r n vs cs z t g) (λ v u q _. then-runs (emits 8 l 0 z u h q) (λ d x m _. goes m c))
+      statement-runs l h (in-call {f} {x} r) n z t vs cs g c =
+          then-runs (all-evaluate r n vs cs z t g)
           (λ ws u q _. then-runs (emits 7 l f z u h q) (λ d y m _. then-goes (k f ws z y cs m c) (receives x vs)))
 
-      block-runs : {b : Block} → BlockPlaces R b → BodyRuns (runBlock tracing budget arrays K b)
-      block-runs in-done z t vs cs g c = goes g c
-      block-runs (in-sequence {p} h r b) z t vs cs g c =
+      block-runs : {b : Block} → BlockPlaces R b → BlockArrays N b → BodyRuns (runBlock tracing budget arrays K b)
+      block-runs in-done n z t vs cs g c = goes g c
+      block-runs (in-sequence {p} h r b) n z t vs cs g c =
           ticks p z t _ h g
-          (λ y q. then-goes (statement-runs p h r y t vs cs q c) (goes-on _ (λ w v us ds m d. block-runs b w v us ds m d)))
+          (λ y q. then-goes (statement-runs p h r (n .0) y t vs cs q c) (goes-on _ (λ w v us ds m d. block-runs b (n .1) w v us ds m d)))
 
   -- ---- procedures
 
@@ -210,10 +215,10 @@ module _ {T : Type 0} {tracing : Trace T} {budget : ℕ} {arrays : List ℕ} {R 
   finishes (next vs cs) z t g c = goes g c
   finishes (back v cs) z t g c = goes g c
 
-  pub procedure-runs : {ps : List Procedure} → ProceduresPlaces R ps → (n : ℕ) → CalleeRuns (runProcedure tracing budget arrays ps n)
+  pub procedure-runs : {ps : List Procedure} → ProceduresPlaces R ps → ProceduresArrays N ps → (n : ℕ) → CalleeRuns (runProcedure tracing budget arrays ps n)
   unfolding runProcedure
-  procedure-runs r zero f ws z t cs g c = goes g c
-  procedure-runs {ps} r (suc n) f ws z t cs g c = go (λ h xs p q ds m i. procedure-runs r n h xs p q ds m i) (eqb f n)
+  procedure-runs r a zero f ws z t cs g c = goes g c
+  procedure-runs {ps} r a (suc n) f ws z t cs g c = go (λ h xs p q ds m i. procedure-runs r a n h xs p q ds m i) (eqb f n)
     where
       go : CalleeRuns (runProcedure tracing budget arrays ps n) → (b : Bool)
           → Runs Gives (pick {A = ℕ → T → Ran T Given} b
@@ -223,5 +228,5 @@ module _ {T : Type 0} {tracing : Trace T} {budget : ℕ} {arrays : List ℕ} {R 
           finish)
           (λ y u. runProcedure tracing budget arrays ps n f ws y u cs) z t)
       go k true =
-          then-goes (block-runs (λ g ws y u cs. runProcedure tracing budget arrays ps n g ws y u cs) k (body-places r n) z t (frame ws) cs g c) finishes
+          then-goes (block-runs (λ g ws y u cs. runProcedure tracing budget arrays ps n g ws y u cs) k (body-places r n) (a n) z t (frame ws) cs g c) finishes
       go k false = k f ws z t cs g c

@@ -18,8 +18,8 @@ use Rattle.definitions.specs.Running.{Ran, Given, traceWords, runProcedure}
 use Rattle.definitions.specs.Requests.{Ready, ready, unready, readyToServe, Called, answered, argumentValues, ended}
 use Rattle.definitions.specs.Requests.{calledOn, servedCall, call}
 use Rattle.definitions.specs.Host.{wholeWords}
-use Rattle.secrecy.specs.Sessions.{imageOf, secretArgument, SameAnswer, bothDone, bothStopped, bothRefused}
-use Rattle.secrecy.specs.Sessions.{recordedCount}
+use Rattle.statements.specs.Statements.{imageOf, secretArgument, SameAnswer, bothDone, bothStopped, bothRefused}
+use Rattle.statements.specs.Statements.{recordedCount}
 use Rattle.secrecy.specs.Agreement.{Agree, cellSecret}
 use Rattle.secrecy.specs.Related.{Runs, ons, halts}
 use Rattle.secrecy.specs.Expressions.{variableSecret}

@@ -19,10 +19,10 @@ use Rattle.definitions.specs.Sorts
 use Rattle.definitions.specs.Labels
 use Rattle.definitions.specs.Running
 use Rattle.definitions.specs.Requests
-use Rattle.secrecy.specs.Sessions.{Machine, empty, Request, turn, imageOf, treeOf, secretArgument, AlikeLists}
-use Rattle.secrecy.specs.Sessions.{bothEmpty, bothGoOn, loads, calls, SameTurns}
+use Rattle.statements.specs.Statements.{Machine, empty, Request, turn, imageOf, treeOf, secretArgument, AlikeLists}
+use Rattle.statements.specs.Statements.{bothEmpty, bothGoOn, loads, calls, SameTurns}
 use Rattle.secrecy.specs.Secrecy.{secrecy}
-use Rattle.secrecy.specs.Sessions
+use Rattle.statements.specs.Statements
 
 -- the words that document 01 gives for the compiled example
 abbrev pub example : List ℕ
@@ -35,11 +35,11 @@ example =
 
 -- load the example, then call its procedure with one argument, a budget of 8 steps and a lent trace of two words
 abbrev pub requests : ℕ → List ℕ → List Request
-requests v trace = Sessions.load example ∷ Sessions.call 0 (bytesOf (v ∷ [])) 8 trace ∷ []
+requests v trace = Statements.load example ∷ Statements.call 0 (bytesOf (v ∷ [])) 8 trace ∷ []
 
 -- the machine after the load, over one lent cell that the image has no use for
 abbrev pub loaded : List ℕ → Machine
-loaded cells = turn (empty cells) (Sessions.load example) .after
+loaded cells = turn (empty cells) (Statements.load example) .after
 
 -- what the lent cells and traces hold at the start
 abbrev pub first : List ℕ
@@ -55,8 +55,8 @@ abbrev pub secondTrace : List ℕ
 secondTrace = bytesOf (3 ∷ 4 ∷ [])
 
 -- The results differ; and the two lists are alike: the argument is secret, and there is no other.
-pub compared : (turn (loaded first) (Sessions.call 0 (bytesOf (7 ∷ [])) 8 firstTrace) .answer ≡ Done 1 8 2)
-    × (turn (loaded second) (Sessions.call 0 (bytesOf (6 ∷ [])) 8 secondTrace) .answer ≡ Done 0 8 2)
+pub compared : (turn (loaded first) (Statements.call 0 (bytesOf (7 ∷ [])) 8 firstTrace) .answer ≡ Done 1 8 2)
+    × (turn (loaded second) (Statements.call 0 (bytesOf (6 ∷ [])) 8 secondTrace) .answer ≡ Done 0 8 2)
     × AlikeLists (empty first) (requests 7 firstTrace) (requests 6 secondTrace)
 unfolding wordsOf bytesOf lent headerWord arrayWord procedureWord typeWord blockWord statementWord expressionWord rawWord placeOf cellCount
     baseOf Reading.readExpression Reading.readArguments Reading.readStatements Reading.readTypes Reading.readProcedure

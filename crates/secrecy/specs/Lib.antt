@@ -1,4 +1,3 @@
-pub mod Sessions
 pub mod Rules
 pub mod Agreement
 pub mod Related

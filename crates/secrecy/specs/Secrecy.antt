@@ -1,4 +1,4 @@
--- Document 01, "What demand 3 compares": the theorem. What its statement says stands in Sessions; requests are served by the host's functions of the
+-- Document 01, "What demand 3 compares": the theorem. What its statement says stands in Statements (of the crate statements); requests are served by the host's functions of the
 -- definitions, on lent bytes, and the checker's own definition decides which image a load accepts.
 --
 -- "Two lists of requests (load, poke, peek, clear, call) stand side by side, of one length and with the same kind of request at each turn; any may be
@@ -11,16 +11,16 @@
 -- Assumes nothing.
 use mathlib.Core.Path.{_≡_, refl, sym, ap}
 use mathlib.Core.Bool.{Bool, false, true≢false}
-use mathlib.Core.List.{List}
-use Prim.Native.Nat.{ℕ}
+use mathlib.Core.List.{List, [], _∷_}
+use Prim.Native.Nat.{ℕ, suc}
 use lib.ListN.{length, set}
 use Rattle.definitions.specs.Bytes.{wordsOf}
 use Rattle.definitions.specs.declared.Answer.{Answer}
 use Rattle.definitions.specs.Reading.{readImage}
 use Rattle.definitions.specs.Host.{layout, answerWords}
-use Rattle.secrecy.specs.Sessions.{Machine, empty, Request, imageOf, treeOf, AlikeLists, bothEmpty, bothGoOn}
-use Rattle.secrecy.specs.Sessions.{nothing, SameTurns, noTurn, oneTurn, SameAnswer, bothDone, bothStopped}
-use Rattle.secrecy.specs.Sessions.{bothRefused}
+use Rattle.statements.specs.Statements.{Machine, empty, Request, turn, responses, imageOf, treeOf, AlikeLists, bothEmpty, bothGoOn}
+use Rattle.statements.specs.Statements.{nothing, SameTurns, noTurn, oneTurn, SameAnswer, bothDone, bothStopped}
+use Rattle.statements.specs.Statements.{bothRefused}
 use Rattle.secrecy.specs.Agreement.{cellSecret}
 use Rattle.secrecy.specs.Turns.{Paired, paired, turned-alike, same-count}
 
@@ -54,3 +54,9 @@ unfolding answerWords
 same-public-answer-words (bothDone {v} {w} {steps} {count} e) = ap (λ (r : ℕ). layout 0 0 0 r steps count) (e refl)
 same-public-answer-words bothStopped = refl
 same-public-answer-words bothRefused = refl
+
+-- there is a response to each request
+pub served-to-the-end : (m : Machine) (requests : List Request) → length (responses m requests) ≡ length requests
+unfolding responses
+served-to-the-end m [] = refl
+served-to-the-end m (r ∷ rs) = ap suc (served-to-the-end (turn m r .after) rs)

@@ -15,7 +15,7 @@ use Rattle.definitions.specs.Image.{arraySecret, arrayLength, baseOf, Image}
 use Rattle.definitions.specs.Requests.{Ready, ready, unready, readyToServe, Served, served, carriedOut, zeroed, hasCell}
 use Rattle.definitions.specs.Requests.{clear, poke, peek}
 use Rattle.definitions.specs.Host.{wholeWords}
-use Rattle.secrecy.specs.Sessions.{imageOf, secretCell, SameAnswer, bothDone, bothRefused}
+use Rattle.statements.specs.Statements.{imageOf, secretCell, SameAnswer, bothDone, bothRefused}
 use Rattle.secrecy.specs.Usable.{usable-serve}
 use Rattle.secrecy.specs.Agreement.{Agree, agree-set, agree-zeroed, cellSecret, layout}
 

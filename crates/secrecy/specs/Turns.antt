@@ -15,15 +15,15 @@ use Rattle.definitions.specs.Checking.{checked, admitted}
 use Rattle.definitions.specs.Requests.{Ready, ready, unready, readyToLoad, Served, served, carriedOut, zeroed, Called}
 use Rattle.definitions.specs.Requests.{load, clear, poke, peek, call}
 use Rattle.definitions.specs.Host.{wholeWords, loadBytes, clearBytes, pokeBytes, peekBytes, callBytes, checkBytes}
-use Rattle.secrecy.specs.Sessions.{Machine, Response, turn, accepted, recordedCount, treeOf, imageOf}
-use Rattle.secrecy.specs.Sessions.{secretResult, Alike, loads, pokes, peeks, clears, calls, bothDone, bothRefused}
-use Rattle.secrecy.specs.Sessions.{InForce, nothing, SameResponse}
+use Rattle.statements.specs.Statements.{Machine, Response, turn, accepted, recordedCount, treeOf, imageOf}
+use Rattle.statements.specs.Statements.{secretResult, Alike, loads, pokes, peeks, clears, calls, bothDone, bothRefused}
+use Rattle.statements.specs.Statements.{InForce, nothing, SameResponse}
 use Rattle.secrecy.specs.Agreement.{Agree, agree-zeroed, cellSecret}
 use Rattle.secrecy.specs.Lending.{length-wordsOf, wordsOf-lent, length-lent, take-lent}
 use Rattle.secrecy.specs.Usable.{usable-load}
 use Rattle.secrecy.specs.Serving.{ServedAlike, public-cells, same-poke, same-peek, same-clear}
 use Rattle.secrecy.specs.Calling.{CalledAlike, same-call}
-use Rattle.secrecy.specs.Sessions
+use Rattle.statements.specs.Statements
 
 -- Two machines with one image in force, and as many lent bytes for cells, which agree where they are public.
 pub data Paired : Machine → Machine → Type 0 where
@@ -40,7 +40,7 @@ pub record Turned (secret : Bool) (x y : Response) : Type 0 where
 in-force-form : {image : List ℕ} → InForce image → imageOf image .form ≡ 1
 unfolding imageOf treeOf readImage wordsOf
 in-force-form nothing = refl
-in-force-form (Sessions.checked a e) = e
+in-force-form (Statements.checked a e) = e
 
 -- no trace is lent
 take-none : (n : ℕ) → take {A = ℕ} n [] ≡ []
@@ -61,11 +61,11 @@ module _ (image cells cells′ : List ℕ) (force : InForce image) (size : lengt
       (rw (wordsOf-lent cells ws (a .left), wordsOf-lent cells′ ws′ other, a .left) a)
 
   cells-after : (ws ws′ : List ℕ) → Agree (length (wordsOf cells)) (cellSecret (imageOf image .arrays)) ws ws′
-      → Sessions.PublicCells (imageOf image) (lent cells ws) (lent cells′ ws′)
+      → Statements.PublicCells (imageOf image) (lent cells ws) (lent cells′ ws′)
   cells-after ws ws′ a = by-pair (after-request ws ws′ a)
     where
       by-pair : Paired (record { image = image; cells = lent cells ws }) (record { image = image; cells = lent cells′ ws′ })
-          → Sessions.PublicCells (imageOf image) (lent cells ws) (lent cells′ ws′)
+          → Statements.PublicCells (imageOf image) (lent cells ws) (lent cells′ ws′)
       by-pair (paired f s b) = public-cells (imageOf image) b
 
   -- a request without a trace
@@ -122,7 +122,7 @@ module _ (image cells cells′ : List ℕ) (force : InForce image) (size : lengt
   unfolding served checkBytes checked admitted imageOf
   turned-load bytes (ready tree) e f =
       let u = usable-load bytes (length (wordsOf cells)) tree e in
-      turned bytes cells cells′ (Sessions.checked (u .accepts) (f refl)) size (carriedOut 0, zeroed tree (wordsOf cells))
+      turned bytes cells cells′ (Statements.checked (u .accepts) (f refl)) size (carriedOut 0, zeroed tree (wordsOf cells))
       (carriedOut 0, zeroed tree (wordsOf cells′))
       (record {
         answers = bothDone (λ _. refl);
@@ -132,7 +132,7 @@ module _ (image cells cells′ : List ℕ) (force : InForce image) (size : lengt
       turned image cells cells′ force size (Refused n p, wordsOf cells) (Refused n p, wordsOf cells′) (record { answers = bothRefused; agree = agree })
 
 -- one turn
-pub turned-alike : {m n : Machine} {r s : Sessions.Request} → Paired m n → Alike m r s
+pub turned-alike : {m n : Machine} {r s : Statements.Request} → Paired m n → Alike m r s
     → Turned (secretResult (imageOf (m .image)) r) (turn m r) (turn n s)
 unfolding turn loadBytes clearBytes pokeBytes peekBytes callBytes load
 turned-alike (paired {image} {cells} {cells′} force size agree) (loads {image = bytes} f) =

@@ -16,7 +16,7 @@ use Rattle.definitions.specs.Reading.{Parse, got, refused, readImage}
 use Rattle.definitions.specs.Checking.{faultOf, withoutFault, admitted, verdict}
 use Rattle.definitions.specs.Requests.{ready, unready, withCells, readyToLoad, readyToServe}
 use Rattle.definitions.specs.Host.{wholeWords}
-use Rattle.secrecy.specs.Sessions.{treeOf}
+use Rattle.statements.specs.Statements.{treeOf}
 
 -- what is known of an image that was read, where a request can work on it with m cells lent
 pub record Usable (parse : Parse Image) (m : ℕ) (image : Image) : Type 0 where

@@ -14,7 +14,7 @@ use Rattle.words.proofs.Laws.{length-wordsOf}
 use Rattle.tables.specs.Table.{arraysIn, Known}
 use Rattle.tables.specs.Looking.{known-arrays, few-cells}
 use Rattle.requests.specs.Cells.{Fits, known-fits}
-use Rattle.requests.specs.Ready.{ready-read, serve-read}
+use Rattle.laws.specs.Ready.{ready-read, serve-read}
 use Rattle.checker.specs.Left.{known-filled, read-tree}
 use Rattle.ready.specs.declared.Ready.{Ready}
 use Rattle.ready.specs.declared.Ready.the-variants.{Cells}

@@ -7,7 +7,7 @@ use native.Mathlib.Omega.{arith}
 use lib.ListN.{length, getD, take, drop, take-append-drop}
 use lib.Seq.{length-take-le, take-all}
 use Rattle.definitions.specs.Choice.{pick}
-use Rattle.definitions.specs.Bytes.{wordsOf, bytesOf, lent}
+use Rattle.definitions.specs.Bytes.{Bytes, wordsOf, bytesOf, lent}
 use Rattle.definitions.specs.Image.{Image, baseOf}
 use Rattle.definitions.specs.Requests.{Served, Called, carriedOut, unready, readyToLoad, readyToServe, calledOn}
 use Rattle.definitions.specs.Host.{wholeWords, loadBytes, clearBytes, pokeBytes, peekBytes, callBytes}
@@ -15,13 +15,12 @@ use Rattle.definitions.specs.declared.Answer.{Answer}
 use Rattle.definitions.specs.declared.Answer.the-variants.{Refused}
 use Rattle.laws.specs.ImageIn.{imageIn, length-limit}
 use Rattle.laws.specs.ReadImages.{open-image}
-use Rattle.words.proofs.Laws.{Bytes, length-wordsOf, lent-wordsOf}
+use Rattle.words.proofs.Laws.{lent-front, length-wordsOf, lent-wordsOf}
 use Rattle.tables.specs.Table.{arraysIn}
 use Rattle.tables.specs.Looking.{image-short}
 use Rattle.requests.specs.Cells.{Fits, hasCellIn}
 use Rattle.requests.specs.OwnCells.{clearOn, pokeOn, peekOn}
-use Rattle.requests.specs.LentCells.{lent-front}
-use Rattle.requests.specs.Ready.{serve-read}
+use Rattle.laws.specs.Ready.{serve-read}
 use Rattle.requests.specs.ByteRequests.{afterwards, afterCall, load-refused, clear-refused, poke-refused, peek-refused, call-refused}
 use Rattle.requests.specs.ByteRequests.{load-ready, clear-ready, poke-ready, peek-ready, call-ready}
 use Rattle.checker.specs.Left.{known-left, ends-left, read-tree, known-filled}

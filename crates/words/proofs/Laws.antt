@@ -1,20 +1,17 @@
 -- Laws of words in slices of bytes: lengths, elements, and that reading undoes writing and writing undoes reading.
 -- Assumes nothing.
-use mathlib.Core.Path.{_≡_, refl}
-use mathlib.Core.List.{List, [], _∷_, _++_}
+use mathlib.Core.Path.{_≡_, refl, sym, ap, _∙_}
+use mathlib.Core.List.{List, [], _∷_, _++_, append-assoc, append-nil}
 use Prim.Native.Nat.{ℕ, zero, suc, _+_, _*_, _/_, _%_, _^_, _≤_, _<_}
 use native.Mathlib.Nat.{le-of-eq}
 use native.Mathlib.Omega.{arith}
-use lib.ListN.{length, getD, take, drop, length-append, length-drop}
+use lib.ListN.{length, getD, take, drop, length-append, length-drop, take-append-drop}
 use lib.Seq.{take-all, drop-at, length-take-le}
-use Rattle.definitions.specs.Bytes.{joined, wordAt, wordsOf, bytesOf, lent}
+use Rattle.definitions.specs.Bytes.{Bytes, joined, wordAt, wordsOf, bytesOf, lent}
 
--- every element is a word, or a byte; past the end of a list stands 0, which is both
+-- every element is a word; past the end of a list stands 0, which is one
 abbrev pub Words : List ℕ → Type 0
 Words ws = (i : ℕ) → getD ws i 0 < 2 ^ 32
-
-abbrev pub Bytes : List ℕ → Type 0
-Bytes b = (i : ℕ) → getD b i 0 < 256
 
 -- ---- bytes to words
 
@@ -69,8 +66,14 @@ bytesOf-append (x ∷ xs) ys = rw (bytesOf-append xs ys)
 
 -- ---- reading what was written
 
-joined-word4 : (w : ℕ) → w < 2 ^ 32 → joined (w / 2 ^ 24) (w / 2 ^ 16 % 256) (w / 2 ^ 8 % 256) (w % 256) ≡ w
-joined-word4 w h = omega arith
+joined-word4 : (w : ℕ) → joined (w / 2 ^ 24) (w / 2 ^ 16 % 256) (w / 2 ^ 8 % 256) (w % 256) ≡ w
+joined-word4 w = omega arith
+
+-- written words come first
+pub words-first : (ws rest : List ℕ) → wordsOf (bytesOf ws ++ rest) ≡ ws ++ wordsOf rest
+unfolding wordsOf bytesOf
+words-first [] rest = refl
+words-first (w ∷ ws) rest = rw (joined-word4 w, words-first ws rest)
 
 wordsOf-short : (b : List ℕ) → length b < 4 → wordsOf b ≡ []
 unfolding wordsOf
@@ -81,9 +84,7 @@ wordsOf-short (x ∷ y ∷ z ∷ []) h = refl
 wordsOf-short (x ∷ y ∷ z ∷ u ∷ b) h = absurd (omega arith)
 
 pub wordsOf-bytesOf : (ws rest : List ℕ) → Words ws → length rest < 4 → wordsOf (bytesOf ws ++ rest) ≡ ws
-unfolding wordsOf bytesOf
-wordsOf-bytesOf [] rest h l = wordsOf-short rest l
-wordsOf-bytesOf (w ∷ ws) rest h l = rw (joined-word4 w (h 0), wordsOf-bytesOf ws rest (λ i. h (suc i)) l)
+wordsOf-bytesOf ws rest h l = words-first ws rest ∙ ap (λ (x : List ℕ). ws ++ x) (wordsOf-short rest l) ∙ append-nil ws
 
 -- ---- lent slices
 
@@ -120,3 +121,28 @@ lent-wordsOf (x ∷ y ∷ z ∷ u ∷ b) h =
 pub lent-take : (b ws : List ℕ) (n : ℕ) → n ≤ length ws → bytesOf (take n ws) ++ drop (4 * n) b ≡ lent b (take n ws)
 unfolding lent
 lent-take b ws n h = rw (length-take-le n ws h)
+
+-- the bytes behind the first n words are the words behind them, and what is left over
+words-behind : (b : List ℕ) (n : ℕ) → Bytes b → 4 * n ≤ length b
+    → bytesOf (drop n (wordsOf b)) ++ drop (4 * length (wordsOf b)) b ≡ drop (4 * n) b
+unfolding lent
+words-behind b n h l =
+    let few : n ≤ length (wordsOf b) = rw length-wordsOf (omega arith) in
+    let front : length (bytesOf (take n (wordsOf b))) ≡ 4 * n = rw (length-bytesOf, length-take-le n (wordsOf b) few) in
+    let split : bytesOf (take n (wordsOf b)) ++ (bytesOf (drop n (wordsOf b)) ++ drop (4 * length (wordsOf b)) b) ≡ b =
+    sym (append-assoc (bytesOf (take n (wordsOf b))) (bytesOf (drop n (wordsOf b))) (drop (4 * length (wordsOf b)) b))
+    ∙ ap (λ (x : List ℕ). x ++ drop (4 * length (wordsOf b)) b)
+    (sym (bytesOf-append (take n (wordsOf b)) (drop n (wordsOf b))) ∙ ap bytesOf (take-append-drop n (wordsOf b)))
+    ∙ lent-wordsOf b h in
+    sym (drop-at (bytesOf (take n (wordsOf b))) (bytesOf (drop n (wordsOf b)) ++ drop (4 * length (wordsOf b)) b) (4 * n) front)
+    ∙ ap (λ (x : List ℕ). drop (4 * n) x) split
+
+-- new words at the front, with the words that were behind them, are the new words' bytes with the bytes that were behind them
+pub lent-front : (b ws : List ℕ) (n : ℕ) → Bytes b → length ws ≡ n → 4 * n ≤ length b
+    → lent b (ws ++ drop n (wordsOf b)) ≡ bytesOf ws ++ drop (4 * n) b
+unfolding lent
+lent-front b ws n h e l =
+    let few : n ≤ length (wordsOf b) = rw length-wordsOf (omega arith) in
+    let long : length (ws ++ drop n (wordsOf b)) ≡ length (wordsOf b) = simp (length-append, length-drop) (omega arith) in
+    rw (long, bytesOf-append)
+    (append-assoc (bytesOf ws) (bytesOf (drop n (wordsOf b))) (drop (4 * length (wordsOf b)) b) ∙ ap (λ (x : List ℕ). bytesOf ws ++ x) (words-behind b n h l))

@@ -1,0 +1,256 @@
+-- Trees all of whose arrays are as N says of the place of the word that names the array, and of the array. In a tree that was
+-- read each is the one that its word names, and in one without a fault each is an array of the image. Assumes nothing.
+use mathlib.Core.Path.{_≡_, refl}
+use mathlib.Core.Bool.{Bool, true, false}
+use mathlib.Core.List.{List, [], _∷_, flatMap}
+use Prim.Native.Nat.{ℕ, zero, suc, _+_, _≤_, _<_}
+use native.Mathlib.Omega.{arith}
+use borrow.Author.Tests.{leb-true, leb-false}
+use lib.Dec.{leb}
+use lib.ListN.{length, getD, set}
+use Rattle.definitions.specs.Image.{payloadOf, blockWord, statementWord, expressionWord, rawWord}
+use Rattle.definitions.specs.Image.{calledOf, largestLevel, Expression, constant, boolean, variable, cell, unary, binary}
+use Rattle.definitions.specs.Image.{select, Statement, assign, store, conditional, loop, return, call, Block, done}
+use Rattle.definitions.specs.Image.{sequence, Procedure, Image, procedureAt}
+use Rattle.definitions.specs.Reading.{got, refused, Reader, expressionAt, readExpression, readArguments, statementAt}
+use Rattle.definitions.specs.Reading.{readStatements, readStatement, readBlock, readImage}
+use Rattle.definitions.specs.Sorts.{sortFaults, argumentFaults, statementSortFaults, blockSortFaults, procedureSortFaults}
+use Rattle.definitions.specs.Sorts.{proceduresSortFaults, imageSortFaults, inside}
+use Rattle.laws.specs.Tests.{kept, nil-left, empties}
+use Rattle.laws.specs.WordTests.{kinds, ops, statement-kind}
+use Rattle.statements.specs.Limits.{arityOf}
+use Rattle.statements.specs.Statements.{NamesArray, in-expression, in-store}
+use Rattle.laws.specs.Reads.{Arities, Reads, reads, refuses, read-as, too-deep, reads-then, reads-word}
+use Rattle.laws.specs.ReadImages.{open-image}
+
+module _ (N : ℕ → ℕ → Type 0) where
+  unfoldable pub ExpressionArrays : Expression → Type 0
+  ExpressionArrays (constant p v) = Unit {0}
+  ExpressionArrays (boolean p v) = Unit {0}
+  ExpressionArrays (variable p x) = Unit {0}
+  ExpressionArrays (cell p a i) = N p a × ExpressionArrays i
+  ExpressionArrays (unary p o e) = ExpressionArrays e
+  ExpressionArrays (binary p o e f) = ExpressionArrays e × ExpressionArrays f
+  ExpressionArrays (select p c e f) = ExpressionArrays c × ExpressionArrays e × ExpressionArrays f
+
+  unfoldable pub ExpressionsArrays : List Expression → Type 0
+  ExpressionsArrays [] = Unit {0}
+  ExpressionsArrays (e ∷ es) = ExpressionArrays e × ExpressionsArrays es
+
+  -- a statement at its place
+  unfoldable mutual
+    pub StatementArrays : ℕ → Statement → Type 0
+    StatementArrays p (assign x e) = ExpressionArrays e
+    StatementArrays p (store a i e) = N p a × ExpressionArrays i × ExpressionArrays e
+    StatementArrays p (conditional c a b) = ExpressionArrays c × BlockArrays a × BlockArrays b
+    StatementArrays p (loop x f t b) = ExpressionArrays f × ExpressionArrays t × BlockArrays b
+    StatementArrays p (return e) = ExpressionArrays e
+    StatementArrays p (call f x es) = ExpressionsArrays es
+
+    pub BlockArrays : Block → Type 0
+    BlockArrays done = Unit {0}
+    BlockArrays (sequence p s b) = StatementArrays p s × BlockArrays b
+
+  abbrev pub ProceduresArrays : List Procedure → Type 0
+  ProceduresArrays ps = (f : ℕ) → BlockArrays (procedureAt ps f .body)
+
+-- ---- where N says nothing of an array
+
+abbrev pub AnyArray : ℕ → ℕ → Type 0
+AnyArray p a = Unit {0}
+
+any-array : (e : Expression) → ExpressionArrays AnyArray e
+unfolding ExpressionArrays
+any-array (constant p v) = tt
+any-array (boolean p v) = tt
+any-array (variable p x) = tt
+any-array (cell p a i) = (tt, any-array i)
+any-array (unary p o e) = any-array e
+any-array (binary p o e f) = (any-array e, any-array f)
+any-array (select p c e f) = (any-array c, any-array e, any-array f)
+
+any-arrays : (es : List Expression) → ExpressionsArrays AnyArray es
+unfolding ExpressionsArrays
+any-arrays [] = tt
+any-arrays (e ∷ es) = (any-array e, any-arrays es)
+
+mutual
+  unfolding StatementArrays BlockArrays
+
+  statement-any : (p : ℕ) (s : Statement) → StatementArrays AnyArray p s
+  statement-any p (assign x e) = any-array e
+  statement-any p (store a i e) = (tt, any-array i, any-array e)
+  statement-any p (conditional c a b) = (any-array c, block-any a, block-any b)
+  statement-any p (loop x f t b) = (any-array f, any-array t, block-any b)
+  statement-any p (return e) = any-array e
+  statement-any p (call f x es) = any-arrays es
+
+  block-any : (b : Block) → BlockArrays AnyArray b
+  block-any done = tt
+  block-any (sequence p s b) = (statement-any p s, block-any b)
+
+pub procedures-any : (ps : List Procedure) → ProceduresArrays AnyArray ps
+procedures-any ps f = block-any (procedureAt ps f .body)
+
+-- ---- a tree without a fault: each array is one of the image's
+
+module _ (N : ℕ → ℕ → Type 0) (arrays : ℕ) where
+  -- as before, and there is such an array
+  abbrev pub Among : ℕ → ℕ → Type 0
+  Among p a = N p a × (a < arrays)
+
+  module _ (types : List ℕ) where
+    among-expression : (marks : List ℕ) (e : Expression) → sortFaults types arrays marks e ≡ [] → ExpressionArrays N e → ExpressionArrays Among e
+    unfolding sortFaults ExpressionArrays
+    among-expression marks (constant p v) h n = tt
+    among-expression marks (boolean p v) h n = tt
+    among-expression marks (variable p x) h n = tt
+    among-expression marks (cell p a i) h n =
+        ((n .0, leb-false arrays a (kept (leb arrays a) 6 p (search empties))), among-expression marks i (search empties) (n .1))
+    among-expression marks (unary p o e) h n = among-expression marks e (search empties) n
+    among-expression marks (binary p o e f) h n = (among-expression marks e (search empties) (n .0), among-expression marks f (search empties) (n .1))
+    among-expression marks (select p c e f) h n = (
+      among-expression marks c (search empties) (n .0),
+      among-expression marks e (search empties) (n .1),
+      among-expression marks f (search empties) (n .2),
+    )
+
+    among-arguments : (marks callee : List ℕ) (k : ℕ) (es : List Expression) → argumentFaults types arrays marks callee k es ≡ []
+        → ExpressionsArrays N es → ExpressionsArrays Among es
+    unfolding argumentFaults ExpressionsArrays
+    among-arguments marks callee k [] h n = tt
+    among-arguments marks callee k (e ∷ es) h n =
+        (among-expression marks e (search empties) (n .0), among-arguments marks callee (k + 1) es (search empties) (n .1))
+
+    module _ (ps : List Procedure) (parameters result : ℕ) where
+      mutual
+        unfolding statementSortFaults blockSortFaults StatementArrays BlockArrays
+
+        among-statement : (marks : List ℕ) (p : ℕ) (s : Statement) → statementSortFaults ps parameters types result arrays marks p s ≡ []
+            → StatementArrays N p s → StatementArrays Among p s
+        among-statement marks p (assign x e) h n = among-expression marks e (search empties) n
+        among-statement marks p (store a i e) h n = (
+          (n .0, leb-false arrays a (kept (leb arrays a) 6 p (search empties))),
+          among-expression marks i (search empties) (n .1),
+          among-expression marks e (search empties) (n .2),
+        )
+        among-statement marks p (conditional c a b) h n =
+            (among-expression marks c (search empties) (n .0), among-block marks a (search empties) (n .1), among-block marks b (search empties) (n .2))
+        among-statement marks p (loop x f t b) h n = (
+          among-expression marks f (search empties) (n .0),
+          among-expression marks t (search empties) (n .1),
+          among-block (set marks x inside) b (search empties) (n .2),
+        )
+        among-statement marks p (return e) h n = among-expression marks e (search empties) n
+        among-statement marks p (call f x es) h n = among-arguments marks (procedureAt ps f .types) 0 es (search empties) n
+
+        among-block : (marks : List ℕ) (b : Block) → blockSortFaults ps parameters types result arrays marks b ≡ [] → BlockArrays N b → BlockArrays Among b
+        among-block marks done h n = tt
+        among-block marks (sequence p s b) h n = (among-statement marks p s (search empties) (n .0), among-block marks b (search empties) (n .1))
+
+  among-procedures : (ps qs : List Procedure) → proceduresSortFaults ps arrays qs ≡ [] → ProceduresArrays N qs → ProceduresArrays Among qs
+  unfolding proceduresSortFaults procedureSortFaults flatMap BlockArrays
+  among-procedures ps [] h n f = tt
+  among-procedures ps (q ∷ qs) h n zero =
+      among-block (q .types) ps (q .parameters) (q .result) _ (q .body) (nil-left _ _ h) (n zero)
+  among-procedures ps (q ∷ qs) h n (suc f) = among-procedures ps qs (search empties) (λ g. n (suc g)) f
+
+-- ---- a tree that was read: each array is the one that its word names
+
+module _ (image : List ℕ) where
+  abbrev pub Names : ℕ → ℕ → Type 0
+  Names p a = NamesArray (getD image p 0) a
+
+  expression-names : (l at : ℕ) → Reads (length image) (λ e n. ExpressionArrays Names e) (readExpression l image at)
+  unfolding readExpression ExpressionArrays
+  expression-names zero at = reads-word image at expressionWord (λ w. refused 5 at) (λ h g. refuses (too-deep h))
+  expression-names (suc l) at =
+      reads-word image at expressionWord (λ w. expressionAt (λ a. readExpression l image a) image at w)
+      (λ h g. let w = getD image at 0 in
+      kinds w g
+      (λ k. rw k (reads tt))
+      (λ k. rw k (reads-word image (at + 1) rawWord (λ v. got (constant at v) (at + 1 + 1)) (λ i q. reads tt)))
+      (λ k. rw k (reads tt))
+      (λ k. rw k (reads tt))
+      (λ k. rw k (reads-then (expression-names l (at + 1)) (λ i n x. reads (in-expression k, x))))
+      (λ k. rw k (reads-then (expression-names l (at + 1)) (λ e n x. reads x)))
+      (λ k. rw k (reads-then (expression-names l (at + 1)) (λ e n x. reads-then (expression-names l n) (λ f m y. reads (x, y)))))
+      (λ k. rw k (reads-then (expression-names l (at + 1)) (λ c n x. reads-then (expression-names l n)
+      (λ e m y. reads-then (expression-names l m) (λ f o z. reads (x, y, z)))))))
+
+  argument-names : (l n at : ℕ) → Reads (length image) (λ es m. ExpressionsArrays Names es) (readArguments n (λ a. readExpression l image a) at)
+  unfolding readArguments ExpressionsArrays
+  argument-names l zero at = reads tt
+  argument-names l (suc n) at = reads-then (expression-names l at) (λ e m x. reads-then (argument-names l n m) (λ es o y. reads (x, y)))
+
+  module _ (params : List ℕ) (me : ℕ) where
+    op-names : (l at : ℕ) (block : Reader Block) → ((a : ℕ) → Reads (length image) (λ b n. BlockArrays Names b) (block a))
+        → statementWord me (getD image at 0) ≡ true
+        → Reads (length image) (λ s n. StatementArrays Names at s) (statementAt (λ a. readExpression l image a) block params at (getD image at 0))
+    unfolding StatementArrays
+    op-names l at block b g =
+        let w = getD image at 0 in
+        let k = statement-kind me w g in
+        ops me w g
+        (λ o. rw o (reads-then (expression-names l (at + 1)) (λ e n x. reads x)))
+        (λ o. rw o (reads-then (expression-names l (at + 1)) (λ i n x. reads-then (expression-names l n) (λ e m y. reads (in-store k o, x, y)))))
+        (λ o. rw o (reads-then (expression-names l (at + 1)) (λ c n x. reads-then (b n) (λ a m y. reads-then (b m) (λ d i z. reads (x, y, z))))))
+        (λ o. rw o (reads-then (expression-names l (at + 1)) (λ f n x. reads-then (expression-names l n)
+        (λ t m y. reads-then (b m) (λ d i z. reads (x, y, z))))))
+        (λ o. rw o (reads-then (expression-names l (at + 1)) (λ e n x. reads x)))
+        (λ o. rw o (reads-then (argument-names l (getD params (calledOf w) 0) (at + 1)) (λ es n x. reads x)))
+
+    statements-names : (n : ℕ) (statement : Reader Statement) → ((a : ℕ) → Reads (length image) (λ s m. StatementArrays Names a s) (statement a)) → (at : ℕ)
+        → Reads (length image) (λ b m. BlockArrays Names b) (readStatements n statement at)
+    unfolding readStatements BlockArrays
+    statements-names zero statement r at = reads tt
+    statements-names (suc n) statement r at = reads-then (r at) (λ s m x. reads-then (statements-names n statement r m) (λ b o y. reads (x, y)))
+
+    mutual
+      unfolding readStatement readBlock
+
+      statement-names : (l at : ℕ) → Reads (length image) (λ s n. StatementArrays Names at s) (readStatement l params me image at)
+      statement-names zero at = reads-word image at (λ w. statementWord me w) (λ w. refused 5 at) (λ h g. refuses (too-deep h))
+      statement-names (suc l) at =
+          reads-word image at (λ w. statementWord me w)
+          (λ w. statementAt (λ a. readExpression l image a) (λ a. readBlock l params me image a) params at w)
+          (λ h g. op-names l at (λ a. readBlock l params me image a) (λ a. block-names l a) g)
+
+      block-names : (l at : ℕ) → Reads (length image) (λ b n. BlockArrays Names b) (readBlock l params me image at)
+      block-names zero at = reads-word image at blockWord (λ w. refused 5 at) (λ h g. refuses (too-deep h))
+      block-names (suc l) at =
+          reads-word image at blockWord (λ w. readStatements (payloadOf w) (λ a. readStatement l params me image a) (at + 1))
+          (λ h g. statements-names (payloadOf (getD image at 0)) (λ a. readStatement l params me image a) (λ a. statement-names l a) (at + 1))
+
+-- the procedures' numbers of parameters, as a table
+arities : List Procedure → List ℕ
+arities [] = []
+arities (p ∷ ps) = p .parameters ∷ arities ps
+
+arities-known : (ps : List Procedure) → Arities (arities ps) (length ps) (arityOf ps)
+unfolding arities
+arities-known [] f h = absurd (omega arith)
+arities-known (p ∷ ps) zero h = refl
+arities-known (p ∷ ps) (suc f) h = arities-known ps f (omega arith)
+
+no-body : (N : ℕ → ℕ → Type 0) (ps : List Procedure) (f : ℕ) → length ps ≤ f → BlockArrays N (procedureAt ps f .body)
+unfolding BlockArrays
+no-body N [] f h = tt
+no-body N (p ∷ ps) zero h = absurd (omega arith)
+no-body N (p ∷ ps) (suc f) h = no-body N ps f (omega arith)
+
+module _ (whole : Bool) (words : List ℕ) (tree : Image) (n : ℕ) (e : readImage whole words ≡ got tree n) where
+  procedures-names : ProceduresArrays (Names words) (tree .procedures)
+  procedures-names f = go (leb (length (tree .procedures)) f) refl
+    where
+      go : (b : Bool) → leb (length (tree .procedures)) f ≡ b → BlockArrays (Names words) (procedureAt (tree .procedures) f .body)
+      go true h = no-body (Names words) (tree .procedures) f (leb-true _ _ h)
+      go false h =
+          let (m, p) = open-image whole words tree n e .each (arities (tree .procedures)) (arities-known (tree .procedures)) f (leb-false _ _ h) in
+          let q = procedureAt (tree .procedures) f in
+          read-as (rw (p .body) at (block-names words (arities (tree .procedures)) f (largestLevel (tree .form)) (q .place + 1 + 1 + length (q .types))))
+
+  -- each array that an accepted image's tree names is the one that its word names, and one of the image's
+  pub procedures-arrays : imageSortFaults tree ≡ [] → ProceduresArrays (Among (Names words) (length (tree .arrays))) (tree .procedures)
+  unfolding imageSortFaults
+  procedures-arrays h = among-procedures (Names words) (length (tree .arrays)) (tree .procedures) (tree .procedures) h procedures-names

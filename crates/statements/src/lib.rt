@@ -1,0 +1,1 @@
+// What the three properties speak of: see specs/.
