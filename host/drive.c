@@ -13,7 +13,6 @@
 
 #include "fields.h"
 #include "tinesage.h"
-#include "words.h"
 
 /* A longer cell slice is not tried: `new` answers `error` rather than taking all memory. */
 #define MOST_LENT_CELLS (1u << 24)
@@ -109,7 +108,7 @@ static bool arguments_in(struct fields *line, struct slice *arguments)
             free(most.at);
             return false;
         }
-        put_word(most.at, count++, value);
+        tinesage_put_word(most.at, count++, value);
     }
     *arguments = allocate(4 * count);
     memcpy(arguments->at, most.at, arguments->length);
@@ -128,17 +127,17 @@ static bool at_end(struct fields *line)
 static void print_words(const uint8_t *bytes, uint64_t count)
 {
     for (uint64_t i = 0; i < count; i++)
-        printf(" %08X", (unsigned)word_at(bytes, i));
+        printf(" %08X", (unsigned)tinesage_word(bytes, i));
     putchar('\n');
 }
 
-static void print_refusal(struct answer a)
+static void print_refusal(struct tinesage_answer a)
 {
     printf("refuse %u %u\n", (unsigned)a.number, (unsigned)a.place);
 }
 
 /* `ok`, or the refusal; whether it was done */
-static bool print_plain(struct answer a)
+static bool print_plain(struct tinesage_answer a)
 {
     if (a.status == TINESAGE_DONE)
         puts("ok");
@@ -147,7 +146,7 @@ static bool print_plain(struct answer a)
     return a.status == TINESAGE_DONE;
 }
 
-static void print_call(struct answer a, const uint8_t *trace)
+static void print_call(struct tinesage_answer a, const uint8_t *trace)
 {
     if (a.status == TINESAGE_REFUSED) {
         print_refusal(a);
@@ -171,7 +170,7 @@ static bool on_check(struct session *session, struct request *line)
     if (!image_in(line, &image))
         return false;
     tinesage_check(image.at, image.length, answer, sizeof answer);
-    print_plain(answer_in(answer));
+    print_plain(tinesage_read_answer(answer));
     free(image.at);
     return true;
 }
@@ -187,7 +186,7 @@ static bool on_compile(struct session *session, struct request *line)
     /* no result is longer than the limit, so a longer slice changes nothing */
     struct slice out = allocate(4 * (size_t)(capacity < TINESAGE_MOST_WORDS ? capacity : TINESAGE_MOST_WORDS));
     tinesage_compile(image.at, image.length, out.at, out.length, answer, sizeof answer);
-    struct answer a = answer_in(answer);
+    struct tinesage_answer a = tinesage_read_answer(answer);
     if (a.status == TINESAGE_DONE) {
         fputs("ok", stdout);
         print_words(out.at, a.count);
@@ -206,7 +205,7 @@ static bool on_load(struct session *session, struct request *line)
     if (!image_in(line, &image))
         return false;
     tinesage_load(image.at, image.length, session->cells.at, session->cells.length, answer, sizeof answer);
-    if (print_plain(answer_in(answer)))
+    if (print_plain(tinesage_read_answer(answer)))
         replace(&session->image, image);
     else
         free(image.at);
@@ -220,7 +219,7 @@ static bool on_clear(struct session *session, struct request *line)
     if (!at_end(&line->rest))
         return false;
     tinesage_clear(image.at, image.length, cells.at, cells.length, answer, sizeof answer);
-    print_plain(answer_in(answer));
+    print_plain(tinesage_read_answer(answer));
     return true;
 }
 
@@ -233,7 +232,7 @@ static bool on_poke(struct session *session, struct request *line)
         !at_end(&line->rest))
         return false;
     tinesage_poke(image.at, image.length, cells.at, cells.length, array, index, value, answer, sizeof answer);
-    print_plain(answer_in(answer));
+    print_plain(tinesage_read_answer(answer));
     return true;
 }
 
@@ -245,7 +244,7 @@ static bool on_peek(struct session *session, struct request *line)
     if (!next_u32(&line->rest, &array) || !next_u32(&line->rest, &index) || !at_end(&line->rest))
         return false;
     tinesage_peek(image.at, image.length, cells.at, cells.length, array, index, answer, sizeof answer);
-    struct answer a = answer_in(answer);
+    struct tinesage_answer a = tinesage_read_answer(answer);
     if (a.status == TINESAGE_DONE)
         printf("ok %u\n", (unsigned)a.result);
     else
@@ -257,8 +256,8 @@ static bool on_peek(struct session *session, struct request *line)
  * Runs a call with a trace slice of `room` words. A shorter slice is lent first, since few traces are long: a run that
  * it does not stop with 22 is the same with a longer one, and one that it does leaves the cells for another try.
  */
-static struct answer run(struct session *session, uint32_t procedure, struct slice arguments, uint32_t budget,
-                         uint64_t room, struct slice *trace)
+static struct tinesage_answer run(struct session *session, uint32_t procedure, struct slice arguments, uint32_t budget,
+                                  uint64_t room, struct slice *trace)
 {
     const struct slice image = session->image, cells = session->cells;
     uint64_t lent = room < FIRST_TRACE ? room : FIRST_TRACE;
@@ -267,8 +266,8 @@ static struct answer run(struct session *session, uint32_t procedure, struct sli
         *trace = allocate(lent > SIZE_MAX / 4 ? SIZE_MAX : 4 * (size_t)lent);
         tinesage_call(image.at, image.length, cells.at, cells.length, procedure, arguments.at, arguments.length, budget,
                       trace->at, trace->length, answer, sizeof answer);
-        struct answer a = answer_in(answer);
-        if (a.status != TINESAGE_STOPPED || a.number != 22 || lent == room)
+        struct tinesage_answer a = tinesage_read_answer(answer);
+        if (a.status != TINESAGE_STOPPED || a.number != TINESAGE_STOP_TRACE_FULL || lent == room)
             return a;
         free(trace->at);
         lent = lent < room / 4 ? 4 * lent : room;
@@ -284,7 +283,7 @@ static bool on_call(struct session *session, struct request *line)
         return false;
     if (!arguments_in(&line->rest, &arguments))
         return false;
-    struct answer a = run(session, procedure, arguments, budget, room, &trace);
+    struct tinesage_answer a = run(session, procedure, arguments, budget, room, &trace);
     print_call(a, trace.at);
     free(trace.at);
     free(arguments.at);
@@ -294,7 +293,7 @@ static bool on_call(struct session *session, struct request *line)
 static void fill(struct slice cells, uint32_t value)
 {
     for (size_t i = 0; i < cells.length / 4; i++)
-        put_word(cells.at, i, value);
+        tinesage_put_word(cells.at, i, value);
 }
 
 static bool on_new(struct session *session, struct request *line)

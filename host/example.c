@@ -8,7 +8,6 @@
 #include <string.h>
 
 #include "tinesage.h"
-#include "words.h"
 
 #define TRACE_WORDS 64
 
@@ -32,11 +31,11 @@ static uint8_t cells[4 * TINESAGE_MOST_CELLS];
 static void take_image(const uint32_t *words, size_t count)
 {
     for (size_t i = 0; i < count; i++)
-        put_word(image, i, words[i]);
+        tinesage_put_word(image, i, words[i]);
     image_length = 4 * count;
 }
 
-static void expect_done(const char *what, struct answer a)
+static void expect_done(const char *what, struct tinesage_answer a)
 {
     if (a.status == TINESAGE_DONE)
         return;
@@ -48,7 +47,7 @@ static void load(void)
 {
     uint8_t answer[TINESAGE_ANSWER];
     tinesage_load(image, image_length, cells, sizeof cells, answer, sizeof answer);
-    expect_done("load", answer_in(answer));
+    expect_done("load", tinesage_read_answer(answer));
 }
 
 /* the compiled form is this host's image from then on */
@@ -57,39 +56,42 @@ static void compile(void)
     static uint8_t out[sizeof image];
     uint8_t answer[TINESAGE_ANSWER];
     tinesage_compile(image, image_length, out, sizeof out, answer, sizeof answer);
-    expect_done("compile", answer_in(answer));
-    image_length = 4 * (size_t)answer_in(answer).count;
+    expect_done("compile", tinesage_read_answer(answer));
+    image_length = 4 * (size_t)tinesage_read_answer(answer).count;
     memcpy(image, out, image_length);
 }
 
 static void print_image(void)
 {
     for (size_t i = 0; i < image_length / 4; i++)
-        printf("%s%08X", i % 8 == 0 ? "\n    " : " ", (unsigned)word_at(image, i));
+        printf("%s%08X", i % 8 == 0 ? "\n    " : " ", (unsigned)tinesage_word(image, i));
     puts("");
 }
 
 static void print_trace(const uint8_t *trace, uint64_t count)
 {
-    static const char *const kinds[] = {"?",        "branch",  "loop from", "loop to", "index",
-                                        "dividend", "divisor", "call",      "return"};
-    for (uint64_t i = 0; i + 1 < count; i += 2) {
-        uint32_t entry = word_at(trace, i);
-        uint32_t kind = entry >> 28;
-        printf("    %08X %08X  %s at word %u\n", (unsigned)entry, (unsigned)word_at(trace, i + 1),
-               kinds[kind <= 8 ? kind : 0], (unsigned)(entry & 0x0FFFFFFF));
+    static const char *const kinds[] = {
+        [TINESAGE_TRACE_BRANCH] = "branch",     [TINESAGE_TRACE_LOOP_FROM] = "loop from",
+        [TINESAGE_TRACE_LOOP_TO] = "loop to",   [TINESAGE_TRACE_INDEX] = "index",
+        [TINESAGE_TRACE_DIVIDEND] = "dividend", [TINESAGE_TRACE_DIVISOR] = "divisor",
+        [TINESAGE_TRACE_CALL] = "call",         [TINESAGE_TRACE_RETURN] = "return",
+    };
+    for (size_t i = 0; i < count / 2; i++) {
+        struct tinesage_trace_entry e = tinesage_read_entry(trace, i);
+        printf("    %08X %08X  %s at word %u\n", (unsigned)tinesage_word(trace, 2 * i), (unsigned)e.value,
+               kinds[e.kind], (unsigned)e.place);
     }
 }
 
 /* calls procedure 0 with at most 100 steps */
 static void call(const char *title, const uint32_t *values, size_t count)
 {
-    uint8_t arguments[4 * 9], trace[4 * TRACE_WORDS], answer[TINESAGE_ANSWER];
+    uint8_t arguments[4 * TINESAGE_MOST_ARGUMENTS], trace[4 * TRACE_WORDS], answer[TINESAGE_ANSWER];
     for (size_t i = 0; i < count; i++)
-        put_word(arguments, i, values[i]);
+        tinesage_put_word(arguments, i, values[i]);
     tinesage_call(image, image_length, cells, sizeof cells, 0, arguments, 4 * count, 100, trace, sizeof trace, answer,
                   sizeof answer);
-    struct answer a = answer_in(answer);
+    struct tinesage_answer a = tinesage_read_answer(answer);
     if (a.status == TINESAGE_DONE)
         printf("  %s: %u in %u steps\n", title, (unsigned)a.result, (unsigned)a.steps);
     else
@@ -110,7 +112,7 @@ static void add_up(void)
     load();
     for (uint32_t i = 0; i < 4; i++) {
         tinesage_poke(image, image_length, cells, sizeof cells, 0, i, 10 * (i + 1), answer, sizeof answer);
-        expect_done("poke", answer_in(answer));
+        expect_done("poke", tinesage_read_answer(answer));
     }
     call("cells 10, 20, 30, 40", NULL, 0);
 }

@@ -1,21 +1,23 @@
 /*
  * Tinesage: check an image, compile it, and run it over cells that the host keeps.
  *
- * An image is 32-bit words; docs/CLAUSES.md leads to their meaning. Every word crosses as four
- * bytes, most significant first. The library keeps nothing between two calls: with each request
- * the host lends the image and the cells, and the image is checked anew. So a host keeps the bytes
- * of the last image that a load accepted, and lends the cells as the request before left them.
+ * An image is 32-bit words; docs/IMAGE.md says what they mean. Every word crosses as four bytes,
+ * most significant first. The library keeps nothing between two calls: with each request the host
+ * lends the image and the cells, and the image is checked anew. So a host keeps the bytes of the
+ * last image that a load accepted, and lends the cells as the request before left them.
  *
  * Rules for every function
- *   - A slice is a pointer, never null, and its length in bytes, which may be 0. The slices of one
- *     call do not overlap.
+ *   - A slice is a pointer and its length in bytes. Where the length is 0 the pointer may be NULL:
+ *     nothing is read or written through it. The slices of one call do not overlap.
  *   - Bytes after the last whole word are ignored and stay as they are, except in an image, where
  *     they are refusal 1.
  *   - Only what is named under "Written" is written. All other lent bytes stay as they are.
  *   - Every function returns, for all bytes and numbers: a fault is an answer.
+ *   - The stack that each needs is in docs/STACK.md. Of the C library, memcpy and memset are used.
  *
  * The answer is seven words in the first 28 bytes of the slice `answer`; the bytes after them stay.
  * A slice shorter than 28 bytes stays unwritten; the request is carried out all the same.
+ * tinesage_read_answer takes the seven words apart.
  *
  *     word       0    1        2       3        4       5, 6
  *     done       0    0        0       result   steps   count
@@ -36,17 +38,139 @@
 extern "C" {
 #endif
 
-/* the length of an answer in bytes */
+/* The version of this interface. A new major number may break a host, a new minor number adds. */
+#define TINESAGE_VERSION_MAJOR 1
+#define TINESAGE_VERSION_MINOR 0
+#define TINESAGE_VERSION_PATCH 0
+#define TINESAGE_VERSION "1.0.0"
+
+/* ---- sizes ---- */
+
+/* the length of an answer, and of a trace entry, in bytes */
 #define TINESAGE_ANSWER 28
+#define TINESAGE_TRACE_ENTRY 8
+
+/* the most words that an image can have: in compiled form, and in source form */
+#define TINESAGE_MOST_WORDS 16384
+#define TINESAGE_MOST_SOURCE_WORDS 4096
+
+/* the most cells of an image together, and the most arguments of a call (8 in source form) */
+#define TINESAGE_MOST_CELLS 1024
+#define TINESAGE_MOST_ARGUMENTS 9
+
+/* ---- numbers ---- */
 
 /* the first word of an answer */
-#define TINESAGE_DONE 0
-#define TINESAGE_STOPPED 1
-#define TINESAGE_REFUSED 2
+enum tinesage_status {
+    TINESAGE_DONE = 0,
+    TINESAGE_STOPPED = 1, /* a call ended early; the cells are as before it */
+    TINESAGE_REFUSED = 2  /* nothing was done */
+};
 
-/* the most words that an image can have, and the most cells */
-#define TINESAGE_MOST_WORDS 16384
-#define TINESAGE_MOST_CELLS 1024
+/* the second word of an answer that is refused; there is no 19 */
+enum tinesage_refusal {
+    /* reading the image: the first fault */
+    TINESAGE_REFUSAL_LENGTH = 1,         /* empty, too long, or not whole words */
+    TINESAGE_REFUSAL_WORD = 2,           /* a word of the wrong kind or payload for its place */
+    TINESAGE_REFUSAL_TRUNCATED = 3,      /* a word is missing at the end */
+    TINESAGE_REFUSAL_TRAILING_WORDS = 4, /* words follow the last procedure */
+    TINESAGE_REFUSAL_TOO_DEEP = 5,       /* nested deeper than the form allows */
+    /* names, sorts and loop variables: the lowest place */
+    TINESAGE_REFUSAL_UNDECLARED = 6,    /* no such variable or array */
+    TINESAGE_REFUSAL_SORT = 7,          /* a word where a boolean is wanted, or the reverse */
+    TINESAGE_REFUSAL_LOOP_VARIABLE = 8, /* unfit for a loop, assigned, or read outside it */
+    /* labels: the lowest place */
+    TINESAGE_REFUSAL_FLOW = 9,               /* a secret would reach something public */
+    TINESAGE_REFUSAL_SECRET_OPERAND = 10,    /* a secret where the operand has to be public */
+    TINESAGE_REFUSAL_UNBOUNDED_OPERAND = 11, /* not bounded by its form, in a secret context */
+    TINESAGE_REFUSAL_OPEN_CALL = 12,         /* an open procedure called in a secret context */
+    TINESAGE_REFUSAL_SECRET_BRANCH = 13,     /* a secret condition in compiled form */
+    /* the compiler */
+    TINESAGE_REFUSAL_ALREADY_COMPILED = 14,
+    TINESAGE_REFUSAL_RESULT_TOO_LARGE = 15, /* the result passes the limits of the compiled form */
+    TINESAGE_REFUSAL_OUTPUT_TOO_SHORT = 16, /* fewer words are lent than the result has */
+    /* the machine */
+    TINESAGE_REFUSAL_OUT_OF_RANGE = 17,   /* no such procedure, array or cell; too few cells lent */
+    TINESAGE_REFUSAL_ARGUMENT_COUNT = 18, /* another number of arguments than of parameters */
+    TINESAGE_REFUSAL_NOT_LOADED = 20      /* the image is empty: nothing has been loaded */
+};
+
+/* the second word of an answer that is stopped */
+enum tinesage_stop {
+    TINESAGE_STOP_BUDGET = 21,      /* the budget of steps is spent */
+    TINESAGE_STOP_TRACE_FULL = 22,  /* fewer than two trace words are free for an entry */
+    TINESAGE_STOP_INDEX = 23,       /* an index is beyond its array */
+    TINESAGE_STOP_ZERO_DIVISOR = 24 /* a divisor is 0 */
+};
+
+/* the kind of a trace entry, with its value */
+enum tinesage_trace_kind {
+    TINESAGE_TRACE_BRANCH = 1,    /* 1: the condition of an if is true, 0: false */
+    TINESAGE_TRACE_LOOP_FROM = 2, /* the first value of a loop variable */
+    TINESAGE_TRACE_LOOP_TO = 3,   /* the value before which the loop ends */
+    TINESAGE_TRACE_INDEX = 4,     /* the index of a cell that is read or written */
+    TINESAGE_TRACE_DIVIDEND = 5,
+    TINESAGE_TRACE_DIVISOR = 6,
+    TINESAGE_TRACE_CALL = 7,  /* the number of the procedure called */
+    TINESAGE_TRACE_RETURN = 8 /* 0 */
+};
+
+/* ---- words, answers and trace entries in lent bytes ---- */
+
+/* the word at an index, counted in words */
+static inline uint32_t tinesage_word(const uint8_t *bytes, size_t index)
+{
+    const uint8_t *b = bytes + 4 * index;
+    return (uint32_t)b[0] << 24 | (uint32_t)b[1] << 16 | (uint32_t)b[2] << 8 | b[3];
+}
+
+static inline void tinesage_put_word(uint8_t *bytes, size_t index, uint32_t word)
+{
+    uint8_t *b = bytes + 4 * index;
+    b[0] = (uint8_t)(word >> 24);
+    b[1] = (uint8_t)(word >> 16);
+    b[2] = (uint8_t)(word >> 8);
+    b[3] = (uint8_t)word;
+}
+
+struct tinesage_answer {
+    uint32_t status; /* enum tinesage_status */
+    uint32_t number; /* enum tinesage_refusal, enum tinesage_stop; 0 where done */
+    uint32_t place;
+    uint32_t result;
+    uint32_t steps;
+    uint64_t count;
+};
+
+static inline struct tinesage_answer tinesage_read_answer(const uint8_t bytes[TINESAGE_ANSWER])
+{
+    struct tinesage_answer a;
+    a.status = tinesage_word(bytes, 0);
+    a.number = tinesage_word(bytes, 1);
+    a.place = tinesage_word(bytes, 2);
+    a.result = tinesage_word(bytes, 3);
+    a.steps = tinesage_word(bytes, 4);
+    a.count = (uint64_t)tinesage_word(bytes, 5) << 32 | tinesage_word(bytes, 6);
+    return a;
+}
+
+struct tinesage_trace_entry {
+    uint32_t kind; /* enum tinesage_trace_kind */
+    uint32_t place;
+    uint32_t value;
+};
+
+/* the entry at an index, counted in entries: a call that answers `count` has recorded count / 2 */
+static inline struct tinesage_trace_entry tinesage_read_entry(const uint8_t *trace, size_t index)
+{
+    struct tinesage_trace_entry e;
+    e.kind = tinesage_word(trace, 2 * index) >> 28;
+    e.place = tinesage_word(trace, 2 * index) & 0x0FFFFFFF;
+    e.value = tinesage_word(trace, 2 * index + 1);
+    return e;
+}
+
+/* ---- the functions ---- */
 
 /*
  * Checks an image, in source or compiled form.
@@ -117,9 +241,8 @@ void tinesage_peek(const uint8_t *image, size_t image_len, const uint8_t *cells,
  * Runs a procedure on `arguments`, one word for each parameter (for a boolean: 0 false, else true),
  * in at most `budget` steps. Each statement begun and each pass of a loop is a step.
  *
- * What an onlooker could learn is recorded in `trace`, in entries of two words, kind * 2^28 + place,
- * then value: 1 branch (0 or 1), 2 and 3 loop from and to, 4 index, 5 dividend, 6 divisor,
- * 7 procedure called, 8 return (0).
+ * What an onlooker could learn is recorded in `trace`, in entries of two words, kind * 2^28 +
+ * place, then value: enum tinesage_trace_kind. tinesage_read_entry takes an entry apart.
  *
  * Done: result is the value returned, 0 or 1 for a boolean, 0 where the body falls off its end;
  *   steps and count are those of the run.

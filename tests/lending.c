@@ -7,7 +7,6 @@
 #include <string.h>
 
 #include "tinesage.h"
-#include "words.h"
 
 static unsigned passed, failed;
 
@@ -51,7 +50,7 @@ static int as_expected(const struct watched *w)
 static void expect_answer(struct watched *w, const uint32_t words[7])
 {
     for (size_t i = 0; i < 7; i++)
-        put_word(w->expected, i, words[i]);
+        tinesage_put_word(w->expected, i, words[i]);
 }
 
 /* The seven functions with one set of slices; the cells are lent with three spare words and three spare bytes. */
@@ -107,7 +106,7 @@ static void peek(uint32_t index)
 static void call(uint32_t argument, size_t arguments_length, uint32_t budget)
 {
     uint8_t arguments[12] = {0};
-    put_word(arguments, 0, argument);
+    tinesage_put_word(arguments, 0, argument);
     tinesage_call(writer, sizeof writer, cells.lent, CELLS_LENT, 0, arguments, arguments_length, budget, trace.lent,
                   trace_length, answer.lent, answer_length);
 }
@@ -132,7 +131,7 @@ static void compile_cases(void)
         compile();
         expect_answer(&answer, (const uint32_t[7]){0, 0, 0, 0, 0, 0, WRITER_WORDS});
         memcpy(out.expected, writer, sizeof writer);
-        put_word(out.expected, 0, 0x10010101);
+        tinesage_put_word(out.expected, 0, 0x10010101);
         expect_all("compile: only the result is written");
     }
     for (size_t missing = 1; missing <= sizeof writer; missing++) {
@@ -173,12 +172,12 @@ static void poke_and_peek_cases(void)
         poke(index, 0x12345678);
         expect_answer(&answer, there ? (const uint32_t[7]){0} : (const uint32_t[7]){2, 17});
         if (there)
-            put_word(cells.expected, index, 0x12345678);
+            tinesage_put_word(cells.expected, index, 0x12345678);
         expect_all("poke: one cell is written, or none");
         reset_all();
         peek(index);
-        expect_answer(&answer,
-                      there ? (const uint32_t[7]){0, 0, 0, word_at(cells.lent, index)} : (const uint32_t[7]){2, 17});
+        expect_answer(&answer, there ? (const uint32_t[7]){0, 0, 0, tinesage_word(cells.lent, index)}
+                                     : (const uint32_t[7]){2, 17});
         expect_all("peek: the cell, and all stay");
     }
 }
@@ -189,7 +188,7 @@ static const uint32_t entries[] = {0x40000006, 1, 0x4000000A, 1, 0x80000009, 0};
 static void expect_trace(uint32_t count, uint32_t index)
 {
     for (uint32_t i = 0; i < count; i++)
-        put_word(trace.expected, i, i == 3 ? index : entries[i]);
+        tinesage_put_word(trace.expected, i, i == 3 ? index : entries[i]);
 }
 
 static void call_cases(void)
@@ -199,7 +198,7 @@ static void call_cases(void)
         trace_length = length;
         call(1, 4 + length % 4, 2);
         expect_answer(&answer, (const uint32_t[7]){0, 0, 0, 1, 2, 0, 6});
-        put_word(cells.expected, 1, 1);
+        tinesage_put_word(cells.expected, 1, 1);
         expect_trace(6, 1);
         expect_all("call: done, with spare bytes in the arguments and the trace");
     }
@@ -246,14 +245,14 @@ static void answer_cases(void)
         poke(1, 0xCAFEF00D);
         if (length >= TINESAGE_ANSWER)
             expect_answer(&answer, (const uint32_t[7]){0});
-        put_word(cells.expected, 1, 0xCAFEF00D);
+        tinesage_put_word(cells.expected, 1, 0xCAFEF00D);
         expect_all("poke: the answer's slice");
         reset(&answer);
         reset(&cells);
         call(1, 4, 2);
         if (length >= TINESAGE_ANSWER)
             expect_answer(&answer, (const uint32_t[7]){0, 0, 0, 1, 2, 0, 6});
-        put_word(cells.expected, 1, 1);
+        tinesage_put_word(cells.expected, 1, 1);
         expect_trace(6, 1);
         expect_all("call: the answer's slice");
     }
@@ -262,7 +261,7 @@ static void answer_cases(void)
 int main(void)
 {
     for (size_t i = 0; i < WRITER_WORDS; i++)
-        put_word(writer, i, writer_words[i]);
+        tinesage_put_word(writer, i, writer_words[i]);
     check_cases();
     compile_cases();
     load_and_clear_cases();

@@ -13,7 +13,6 @@
 #include <string.h>
 
 #include "tinesage.h"
-#include "words.h"
 
 /* ---- images ---- */
 
@@ -65,7 +64,7 @@ static uint32_t parameters(const struct shape *s) { return s->leaf != CALL_WITH_
 static void push(struct image *image, uint32_t word)
 {
     if (image->count < TINESAGE_MOST_WORDS)
-        put_word(image->bytes, image->count, word);
+        tinesage_put_word(image->bytes, image->count, word);
     image->count++;
 }
 
@@ -267,7 +266,7 @@ static uint8_t out[4 * TINESAGE_MOST_WORDS], cells[4 * TINESAGE_MOST_CELLS], tra
 
 static void *run(void *given)
 {
-    static const uint8_t arguments[4 * 9];
+    static const uint8_t arguments[4 * TINESAGE_MOST_ARGUMENTS];
     struct job *job = given;
     const uint8_t *image = job->image->bytes;
     size_t length = 4 * job->image->count, answer_len = sizeof job->answer;
@@ -349,7 +348,7 @@ static void keep(struct largest *kept, size_t bytes, const struct shape *s)
 /* whether the image got as far as it was made for: 13 and 14 come after all checks of names, sorts and labels */
 static bool expected(const struct job *job, const struct shape *s)
 {
-    struct answer a = answer_in(job->answer);
+    struct tinesage_answer a = tinesage_read_answer(job->answer);
     if (refused(s))
         return a.number == 13;
     return job->function == COMPILE && s->form == 1 ? a.number == 14 : a.status == TINESAGE_DONE;
@@ -365,7 +364,7 @@ static void measure(enum function function, const struct shape *s, const struct 
     struct job job = {function, image, called(s), parameters(s), NULL, {0}};
     size_t bytes = need(&job);
     if (!expected(&job, s)) {
-        struct answer a = answer_in(job.answer);
+        struct tinesage_answer a = tinesage_read_answer(job.answer);
         printf("FAILED: %s answers %u at word %u\n", function_names[function], (unsigned)a.number, (unsigned)a.place);
         failed++;
         return;

@@ -1,0 +1,164 @@
+/*
+ * The header beside the library: its limits are those at which the checker turns from accepting to refusing, and its
+ * functions take answers and trace entries apart as the library writes them. Prints 'N passed, M failed' as its last
+ * line.
+ */
+#include <stdio.h>
+#include <stdlib.h>
+#include <string.h>
+
+#include "tinesage.h"
+
+static unsigned passed, failed;
+
+static void expect(const char *what, int holds)
+{
+    if (holds) {
+        passed++;
+    } else {
+        failed++;
+        printf("FAILED: %s\n", what);
+    }
+}
+
+/* ---- words and answers ---- */
+
+static void word_cases(void)
+{
+    uint8_t bytes[12] = {0};
+    tinesage_put_word(bytes, 1, 0x89ABCDEF);
+    expect("put_word: most significant byte first, and no other byte",
+           memcmp(bytes, "\0\0\0\0\x89\xAB\xCD\xEF\0\0\0\0", 12) == 0);
+    expect("word: as put_word", tinesage_word(bytes, 1) == 0x89ABCDEF && tinesage_word(bytes, 2) == 0);
+}
+
+static void answer_cases(void)
+{
+    uint8_t bytes[TINESAGE_ANSWER];
+    for (uint32_t i = 0; i < 7; i++)
+        tinesage_put_word(bytes, i, 0xF0000001 + i);
+    struct tinesage_answer a = tinesage_read_answer(bytes);
+    expect("read_answer: status, number, place",
+           a.status == 0xF0000001 && a.number == 0xF0000002 && a.place == 0xF0000003);
+    expect("read_answer: result, steps", a.result == 0xF0000004 && a.steps == 0xF0000005);
+    expect("read_answer: count, the high word first", a.count == 0xF0000006F0000007);
+}
+
+static void entry_cases(void)
+{
+    uint8_t trace[2 * TINESAGE_TRACE_ENTRY] = {0};
+    tinesage_put_word(trace, 2, 0x4ABCDEF1);
+    tinesage_put_word(trace, 3, 0x87654321);
+    struct tinesage_trace_entry e = tinesage_read_entry(trace, 1);
+    expect("read_entry: kind, place, value",
+           e.kind == TINESAGE_TRACE_INDEX && e.place == 0xABCDEF1 && e.value == 0x87654321);
+}
+
+static void version_case(void)
+{
+    char text[64];
+    snprintf(text, sizeof text, "%d.%d.%d", TINESAGE_VERSION_MAJOR, TINESAGE_VERSION_MINOR, TINESAGE_VERSION_PATCH);
+    expect("the version is made of its three numbers", strcmp(text, TINESAGE_VERSION) == 0);
+}
+
+/* ---- limits: each image is made for a number, which is accepted up to the limit and refused above it ---- */
+
+static uint8_t image[4 * (TINESAGE_MOST_WORDS + 1)];
+static size_t count;
+
+static void push(uint32_t word)
+{
+    tinesage_put_word(image, count++, word);
+}
+
+static uint32_t checked(void)
+{
+    uint8_t answer[TINESAGE_ANSWER];
+    tinesage_check(image, 4 * count, answer, sizeof answer);
+    return tinesage_read_answer(answer).number;
+}
+
+/* procedure 0 is empty, procedure 1 has one local and calls it in each word of its body */
+static uint32_t with_words(uint32_t form, uint32_t words)
+{
+    static const uint32_t start[] = {0x10000002, 0x30000000, 0x40000000, 0x50000000,
+                                     0x30000001, 0x40000000, 0x40000000, 0x50000000};
+    count = 0;
+    for (uint32_t i = 0; i < 8; i++)
+        push(start[i] + (i == 0 ? form << 16 : i == 7 ? words - 8 : 0));
+    while (count < words)
+        push(0x60050000);
+    return checked();
+}
+
+/* as many arrays of 256 cells as fit, and one with the others */
+static uint32_t with_cells(uint32_t cells)
+{
+    uint32_t arrays = (cells + 255) / 256;
+    count = 0;
+    push(0x10000001 + (arrays << 8));
+    for (; cells > 0; cells -= cells < 256 ? cells : 256)
+        push(0x20000000 + (cells < 256 ? cells : 256));
+    push(0x30000000);
+    push(0x40000000);
+    push(0x50000000);
+    return checked();
+}
+
+static uint32_t with_parameters(uint32_t form, uint32_t parameters)
+{
+    count = 0;
+    push(0x10000001 + (form << 16));
+    push(0x30000000 + (parameters << 8));
+    for (uint32_t i = 0; i <= parameters; i++)
+        push(0x40000000);
+    push(0x50000000);
+    return checked();
+}
+
+static void limit_cases(void)
+{
+    expect("the most words in compiled form are accepted", with_words(1, TINESAGE_MOST_WORDS) == 0);
+    expect("one more is refused", with_words(1, TINESAGE_MOST_WORDS + 1) == TINESAGE_REFUSAL_LENGTH);
+    expect("the most words in source form are accepted", with_words(0, TINESAGE_MOST_SOURCE_WORDS) == 0);
+    expect("one more is refused", with_words(0, TINESAGE_MOST_SOURCE_WORDS + 1) == TINESAGE_REFUSAL_LENGTH);
+    expect("the most cells are accepted", with_cells(TINESAGE_MOST_CELLS) == 0);
+    expect("one more is refused", with_cells(TINESAGE_MOST_CELLS + 1) == TINESAGE_REFUSAL_WORD);
+    expect("the most arguments are accepted", with_parameters(1, TINESAGE_MOST_ARGUMENTS) == 0);
+    expect("one more is refused", with_parameters(1, TINESAGE_MOST_ARGUMENTS + 1) == TINESAGE_REFUSAL_WORD);
+    expect("source form has one less", with_parameters(0, TINESAGE_MOST_ARGUMENTS - 1) == 0);
+    expect("and no more", with_parameters(0, TINESAGE_MOST_ARGUMENTS) == TINESAGE_REFUSAL_WORD);
+}
+
+/* an entry is so long that a slice of that length takes one, and a byte less takes none */
+static void entry_length_cases(void)
+{
+    static const uint32_t words[] = {0x10000001, 0x30000000, 0x40000000, 0x50000001, 0x60040000, 0x70000005};
+    count = 0;
+    for (size_t i = 0; i < 6; i++)
+        push(words[i]);
+    for (size_t missing = 0; missing < 2; missing++) {
+        uint8_t trace[TINESAGE_TRACE_ENTRY], answer[TINESAGE_ANSWER];
+        tinesage_call(image, 4 * count, NULL, 0, 0, NULL, 0, 1, trace, sizeof trace - missing, answer, sizeof answer);
+        struct tinesage_answer a = tinesage_read_answer(answer);
+        if (missing == 0) {
+            expect("a return is recorded", a.status == TINESAGE_DONE && a.result == 5 && a.steps == 1 && a.count == 2);
+            expect("as an entry", tinesage_read_entry(trace, 0).kind == TINESAGE_TRACE_RETURN &&
+                                      tinesage_read_entry(trace, 0).place == 4);
+        } else {
+            expect("a byte less takes none", a.status == TINESAGE_STOPPED && a.number == TINESAGE_STOP_TRACE_FULL);
+        }
+    }
+}
+
+int main(void)
+{
+    word_cases();
+    answer_cases();
+    entry_cases();
+    version_case();
+    limit_cases();
+    entry_length_cases();
+    printf("%u passed, %u failed\n", passed, failed);
+    return failed == 0 ? EXIT_SUCCESS : EXIT_FAILURE;
+}
