@@ -18,7 +18,7 @@ use Rattle.definitions.specs.Requests.{Called, answered, argumentValues, ended,
 use Rattle.preservation.specs.Relations.{Spent, Sim, meet, left, right, fail}
 use Rattle.preservation.specs.Simulation.{SameGiven, sameGiven}
 use Rattle.preservation.specs.Bodies.{Accepted, typed-parameters}
-use Rattle.preservation.specs.Preservation.{Compilable, accepted-at, compiled-at, compiled-count}
+use Rattle.preservation.specs.Preservation.{SoundSource, accepted-at, compiled-at, compiled-count}
 use Rattle.statements.specs.Statements.{withGuard}
 use Rattle.preservation.specs.Preservation.{preserved}
 use Rattle.preservation.specs.Erasure.{erasedProcedure, erasedProcedures, erasedImage, erased-at, erased-count}
@@ -30,7 +30,7 @@ same-erased : {T U A : Type 0} {R : A → Given → Type 0} (x : Ran T A) (D : T
 same-erased x D budget arrays arrays′ ps ps′ n n′ f ws y u cs p q r h = rw (p, q, r) h
 
 -- A procedure of an image that is the compiled one but for its places ends as its source ends.
-pub preserved-image : (I : Image) → Compilable I → (I′ : Image) → erasedImage I′ ≡ erasedImage (compiledImage I)
+pub preserved-image : (I : Image) → SoundSource I → (I′ : Image) → erasedImage I′ ≡ erasedImage (compiledImage I)
     → {T U : Type 0} (C : Trace T) (D : Trace U) {Q : U → U → Type 0} → AlikeTraces D D Q → (budget budget′ : ℕ) (f : ℕ) (ws : List ℕ)
     → length ws ≡ procedureAt (I .procedures) f .parameters → (z : ℕ) (t : T) (y : ℕ) (u : U) → Q u u → (cs : List ℕ)
     → Sim SameGiven
@@ -130,7 +130,7 @@ guard-count P ws = length-append ws (pick (guarded P) (1 ∷ []) []) ∙ ap (λ 
     go false = refl
 
 -- one call, of the source's procedure f and of the compiled one
-module _ (I : Image) (c : Compilable I) (I′ : Image) (e : erasedImage I′ ≡ erasedImage (compiledImage I)) (cells : List ℕ) (f : ℕ) (arguments : List ℕ) (budget budget′ room room′ : ℕ) where
+module _ (I : Image) (c : SoundSource I) (I′ : Image) (e : erasedImage I′ ≡ erasedImage (compiledImage I)) (cells : List ℕ) (f : ℕ) (arguments : List ℕ) (budget budget′ room room′ : ℕ) where
   abbrev called : Procedure
   called = procedureAt (I .procedures) f
 
@@ -184,7 +184,7 @@ module _ (I : Image) (c : Compilable I) (I′ : Image) (e : erasedImage I′ ≡
       absurd (omega arith)
 
 -- The machine's call ends as that of the source, with any two budgets and rooms for the trace.
-pub preserved-call : (I : Image) → Compilable I → (I′ : Image) → erasedImage I′ ≡ erasedImage (compiledImage I)
+pub preserved-call : (I : Image) → SoundSource I → (I′ : Image) → erasedImage I′ ≡ erasedImage (compiledImage I)
     → (cells : List ℕ) (f : ℕ) (arguments : List ℕ) (budget budget′ room room′ : ℕ)
     → SameCall (calledOn I cells f arguments budget room) (calledOn I′ cells f (withGuard (procedureAt (I .procedures) f) arguments) budget′ room′)
 unfolding calledOn

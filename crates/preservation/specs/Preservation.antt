@@ -67,12 +67,12 @@ module _ (I : Image) where
   compiled-count (q ∷ qs) = ap suc (compiled-count qs)
 
 -- an image that reading gave and no rule refuses, whose compiled form has at most 246 locals in each procedure
-pub record Compilable (I : Image) : Type 0 where
+pub record SoundSource (I : Image) : Type 0 where
   pub well : wellRead I ≡ true
   pub clean : faultOf I .number ≡ 0
   pub fits : fitLocals (compiledImage I .procedures) ≡ true
 
-pub accepted-at : (I : Image) → Compilable I → (n : ℕ) → n < length (I .procedures) → Accepted I (procedureAt (I .procedures) n)
+pub accepted-at : (I : Image) → SoundSource I → (n : ℕ) → n < length (I .procedures) → Accepted I (procedureAt (I .procedures) n)
 unfolding wellRead imageSortFaults imageLabelFaults compiledImage
 accepted-at I c n i =
     let f = faultless I (c .clean) in
@@ -83,7 +83,7 @@ accepted-at I c n i =
       fits = procedure-fits I (I .procedures) n i (c .fits);
     }
 
-module _ (I : Image) (c : Compilable I) {T U : Type 0} (C : Trace T) (D : Trace U) (budget budget′ : ℕ) where
+module _ (I : Image) (c : SoundSource I) {T U : Type 0} (C : Trace T) (D : Trace U) (budget budget′ : ℕ) where
   -- the first n procedures of the source, and those of its compiled form
   abbrev sources : ℕ → Callee T
   sources n = λ f ws z t cs. runProcedure C budget (I .arrays) (I .procedures) n f ws z t cs
@@ -144,7 +144,7 @@ module _ (I : Image) (c : Compilable I) {T U : Type 0} (C : Trace T) (D : Trace 
           }
 
 -- A compiled procedure ends as its source ends, over any two kinds of trace, any two budgets, and from any steps and traces on.
-pub preserved : (I : Image) → Compilable I → {T U : Type 0} (C : Trace T) (D : Trace U) (budget budget′ : ℕ) (f : ℕ) (ws : List ℕ)
+pub preserved : (I : Image) → SoundSource I → {T U : Type 0} (C : Trace T) (D : Trace U) (budget budget′ : ℕ) (f : ℕ) (ws : List ℕ)
     → length ws ≡ procedureAt (I .procedures) f .parameters → (z : ℕ) (t : T) (y : ℕ) (u : U) (cs : List ℕ)
     → Sim SameGiven
     (runProcedure C budget (I .arrays) (I .procedures) (length (I .procedures)) f ws z t cs)

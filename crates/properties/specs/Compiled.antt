@@ -21,7 +21,7 @@ use Rattle.readback.specs.Ready.{lentEnough, compiled-ready}
 use Rattle.readback.specs.Cells.{source-call}
 use Rattle.readback.specs.Output.{Wrote}
 use Rattle.preservation.specs.Relations.{budgetSpent, traceFull}
-use Rattle.preservation.specs.Preservation.{Compilable}
+use Rattle.preservation.specs.Preservation.{SoundSource}
 use Rattle.preservation.specs.Calls.{SameCall, bothDone, bothStopped, bothRefused, sourceSpent, compiledSpent}
 use Rattle.preservation.specs.Calls.{preserved-call}
 use Rattle.properties.specs.Bridge.{same-image, well-source}
@@ -64,8 +64,8 @@ module _ (whole : Bool) (words out : List ℕ) (n : ℕ) (w : Wrote whole words 
   pub no-fault : faultOf (w .source) .number ≡ 0
   no-fault = no-fault-of (w .source) (w .sound .no-sort-fault) (w .sound .no-label-fault)
 
-  compilable : Compilable (w .source)
-  compilable =
+  sound-source : SoundSource (w .source)
+  sound-source =
       record {
         well = well-source (w .source) (w .sound .read) (w .sound .source-form);
         clean = no-fault;
@@ -85,5 +85,5 @@ module _ (whole : Bool) (words out : List ℕ) (n : ℕ) (w : Wrote whole words 
       (both-served (w .source) (r .tree) (r .same-arrays) cells (λ m. calledOn m cells f arguments budget room)
       (λ m. calledOn m cells f (withGuard (procedureAt (w .source .procedures) f) arguments) budget′ room′)
       (end-alike (same-refusal (w .source) (r .tree) (r .like) f cells arguments budget budget′ room room′)
-      (preserved-call (w .source) compilable (r .tree) (sym (same-image (compiledImage (w .source)) (r .tree) (r .like)))
+      (preserved-call (w .source) sound-source (r .tree) (sym (same-image (compiledImage (w .source)) (r .tree) (r .like)))
       cells f arguments budget budget′ room room′)))

@@ -96,11 +96,11 @@ procedures-any ps f = block-any (procedureAt ps f .body)
 
 module _ (N : ℕ → ℕ → Type 0) (arrays : ℕ) where
   -- as before, and there is such an array
-  abbrev pub Among : ℕ → ℕ → Type 0
-  Among p a = N p a × (a < arrays)
+  abbrev pub WithArray : ℕ → ℕ → Type 0
+  WithArray p a = N p a × (a < arrays)
 
   module _ (types : List ℕ) where
-    among-expression : (marks : List ℕ) (e : Expression) → sortFaults types arrays marks e ≡ [] → ExpressionArrays N e → ExpressionArrays Among e
+    among-expression : (marks : List ℕ) (e : Expression) → sortFaults types arrays marks e ≡ [] → ExpressionArrays N e → ExpressionArrays WithArray e
     unfolding sortFaults ExpressionArrays
     among-expression marks (constant p v) h n = tt
     among-expression marks (boolean p v) h n = tt
@@ -116,7 +116,7 @@ module _ (N : ℕ → ℕ → Type 0) (arrays : ℕ) where
     )
 
     among-arguments : (marks callee : List ℕ) (k : ℕ) (es : List Expression) → argumentFaults types arrays marks callee k es ≡ []
-        → ExpressionsArrays N es → ExpressionsArrays Among es
+        → ExpressionsArrays N es → ExpressionsArrays WithArray es
     unfolding argumentFaults ExpressionsArrays
     among-arguments marks callee k [] h n = tt
     among-arguments marks callee k (e ∷ es) h n =
@@ -127,7 +127,7 @@ module _ (N : ℕ → ℕ → Type 0) (arrays : ℕ) where
         unfolding statementSortFaults blockSortFaults StatementArrays BlockArrays
 
         among-statement : (marks : List ℕ) (p : ℕ) (s : Statement) → statementSortFaults ps parameters types result arrays marks p s ≡ []
-            → StatementArrays N p s → StatementArrays Among p s
+            → StatementArrays N p s → StatementArrays WithArray p s
         among-statement marks p (assign x e) h n = among-expression marks e (search empties) n
         among-statement marks p (store a i e) h n = (
           (n .0, leb-false arrays a (kept (leb arrays a) 6 p (search empties))),
@@ -144,11 +144,11 @@ module _ (N : ℕ → ℕ → Type 0) (arrays : ℕ) where
         among-statement marks p (return e) h n = among-expression marks e (search empties) n
         among-statement marks p (call f x es) h n = among-arguments marks (procedureAt ps f .types) 0 es (search empties) n
 
-        among-block : (marks : List ℕ) (b : Block) → blockSortFaults ps parameters types result arrays marks b ≡ [] → BlockArrays N b → BlockArrays Among b
+        among-block : (marks : List ℕ) (b : Block) → blockSortFaults ps parameters types result arrays marks b ≡ [] → BlockArrays N b → BlockArrays WithArray b
         among-block marks done h n = tt
         among-block marks (sequence p s b) h n = (among-statement marks p s (search empties) (n .0), among-block marks b (search empties) (n .1))
 
-  among-procedures : (ps qs : List Procedure) → proceduresSortFaults ps arrays qs ≡ [] → ProceduresArrays N qs → ProceduresArrays Among qs
+  among-procedures : (ps qs : List Procedure) → proceduresSortFaults ps arrays qs ≡ [] → ProceduresArrays N qs → ProceduresArrays WithArray qs
   unfolding proceduresSortFaults procedureSortFaults flatMap BlockArrays
   among-procedures ps [] h n f = tt
   among-procedures ps (q ∷ qs) h n zero =
@@ -251,6 +251,6 @@ module _ (whole : Bool) (words : List ℕ) (tree : Image) (n : ℕ) (e : readIma
           read-as (rw (p .body) at (block-names words (arities (tree .procedures)) f (largestLevel (tree .form)) (q .place + 1 + 1 + length (q .types))))
 
   -- each array that an accepted image's tree names is the one that its word names, and one of the image's
-  pub procedures-arrays : imageSortFaults tree ≡ [] → ProceduresArrays (Among (Names words) (length (tree .arrays))) (tree .procedures)
+  pub procedures-arrays : imageSortFaults tree ≡ [] → ProceduresArrays (WithArray (Names words) (length (tree .arrays))) (tree .procedures)
   unfolding imageSortFaults
   procedures-arrays h = among-procedures (Names words) (length (tree .arrays)) (tree .procedures) (tree .procedures) h procedures-names

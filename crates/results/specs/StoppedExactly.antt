@@ -28,7 +28,7 @@ use Rattle.laws.specs.Admitted.{admitted-read}
 use Rattle.laws.specs.Faultless.{faultless}
 use Rattle.laws.specs.Reads.{Inside}
 use Rattle.laws.specs.ReadImages.{ImageWords, open-image}
-use Rattle.results.specs.ArraysNamed.{Among, Names, procedures-arrays}
+use Rattle.results.specs.ArraysNamed.{WithArray, Names, procedures-arrays}
 use Rattle.results.specs.Answers.{Stop, budget-spent, trace-full, beyond-array, divisor-0, Calls, ends, stops}
 use Rattle.results.specs.Answers.{call-refuses}
 use Rattle.results.specs.Images.{admits-image}
@@ -91,7 +91,7 @@ abbrev LastEntry : List ℕ → ℕ → ℕ → List ℕ → Type 0
 LastEntry words k place recorded = (k ≡ 23 → BeyondArray words place recorded) × (k ≡ 24 → DivisorZero words place recorded)
 
 module _ {whole : Bool} {words : List ℕ} {tree : Image} {n : ℕ} (w : ImageWords whole words tree n) (budget room : ℕ) where
-  index-beyond : (a l i : ℕ) (t : List ℕ) → l < length words → Among (Names words) (length (tree .arrays)) l a
+  index-beyond : (a l i : ℕ) (t : List ℕ) → l < length words → WithArray (Names words) (length (tree .arrays)) l a
       → ltb i (arrayLength (getD (tree .arrays) a 0)) ≡ false → BeyondArray words l (t ++ ((4 * 268435456 + l) ∷ i ∷ []))
   index-beyond a l i t h m e =
       let c : length (tree .arrays) ≡ arraysOf (getD words 0 0) = w .arrays .words .count in
@@ -107,7 +107,7 @@ module _ {whole : Bool} {words : List ℕ} {tree : Image} {n : ℕ} (w : ImageWo
         beyond = rw (w .arrays .words .word a there) at (ltb-false i (arrayLength (getD (tree .arrays) a 0)) e);
       }
 
-  abbrev last-entries : Claim (traceWords room) budget (tree .arrays) (Inside words) (Among (Names words) (length (tree .arrays)))
+  abbrev last-entries : Claim (traceWords room) budget (tree .arrays) (Inside words) (WithArray (Names words) (length (tree .arrays)))
   last-entries =
       record {
         Going = λ z t. Unit {0};
