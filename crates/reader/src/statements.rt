@@ -110,7 +110,7 @@ fn read_for(
 }
 
 // A statement in the body of the procedure numbered `me`; the table has the number of parameters of each procedure before it.
-pub fn read_statement(
+fn read_statement(
     image: &[u32],
     table: &[u32; SIZE],
     me: u32,
