@@ -41,7 +41,7 @@ use Rattle.secrecy.specs.Secrecy.{secrecy, served-to-the-end}
 use Rattle.promises.specs.Functions.{check-read, compile-read, request-read, call-read}
 
 -- ======== Property 1
--- Every image and every call gets a result, one of four named stops, or the exact refusal; refusals and stops leave cells and output unchanged.
+-- The demand: every image and call gets a result, one of four named stops or the exact refusal, and refusals and stops leave cells and output unchanged.
 
 -- When a call is stopped, whatever its budget and the trace lent: no "21 or 22 given before the first step without cause".
 pub record StoppedExactly (image cells : List ℕ) (f : ℕ) (arguments : List ℕ) : Type 0 where
@@ -167,7 +167,7 @@ property-1 =
     }
 
 -- ======== Property 2
--- A compiled image is accepted by the checker, loads over the same cells, and every call on it ends as the call on its source.
+-- The demand: a compiled image loads and ends as its source ends.
 
 -- what the compiler wrote, where it answers that it wrote n words: the first of its output
 abbrev pub wrote : List ℕ → List ℕ → ℕ → List ℕ
@@ -204,6 +204,7 @@ property-2 =
     }
 
 -- ======== Property 3
+-- The demand: over any list of requests on two machines that differ only in secrets, everything an onlooker sees is equal: one claim about the whole list.
 -- "Two lists of requests (load, poke, peek, clear, call) stand side by side .. Secret arguments and words poked into secret cells may differ. .. Equal at
 -- each turn: whether it is refused or stopped, number, place, steps, the number of trace words recorded and each of them, a public result, a peeked
 -- public cell. Equal after each turn: all cells of public arrays of the image then in force. This is one claim about the whole list".
