@@ -4,6 +4,7 @@
  *
  *   check W..             compile CAP W..           load W..          (an image in words, 8 hexadecimal digits each)
  *   checkbytes HEX        compilebytes CAP HEX      loadbytes HEX     (an image in bytes)
+ *   describe CAP W..      describebytes CAP HEX
  *   new COUNT             fill VALUE                cells             (the cell slice that this host lends)
  *   poke ARRAY INDEX VALUE    peek ARRAY INDEX    clear    call PROCEDURE BUDGET TRACECAP ARGUMENT..
  */
@@ -57,7 +58,7 @@ struct request {
 
 /* ---- images and arguments from the fields of a line ---- */
 
-/* checkbytes, compilebytes and loadbytes take the image in bytes */
+/* checkbytes, compilebytes, loadbytes and describebytes take the image in bytes */
 static bool takes_bytes(const struct request *line)
 {
     return line->name.length > 5 && memcmp(line->name.start + line->name.length - 5, "bytes", 5) == 0;
@@ -175,9 +176,13 @@ static bool on_check(struct session *session, struct request *line)
     return true;
 }
 
-static bool on_compile(struct session *session, struct request *line)
+/* a function of the library that writes words of its own into a lent slice */
+typedef void writing(const uint8_t *image, size_t image_len, uint8_t *out, size_t out_len, uint8_t *answer,
+                     size_t answer_len);
+
+/* the words that the function writes, or its refusal */
+static bool print_written(struct request *line, writing *function)
 {
-    (void)session;
     struct slice image;
     uint64_t capacity;
     uint8_t answer[TINESAGE_ANSWER];
@@ -185,7 +190,7 @@ static bool on_compile(struct session *session, struct request *line)
         return false;
     /* no result is longer than the limit, so a longer slice changes nothing */
     struct slice out = allocate(4 * (size_t)(capacity < TINESAGE_MOST_WORDS ? capacity : TINESAGE_MOST_WORDS));
-    tinesage_compile(image.at, image.length, out.at, out.length, answer, sizeof answer);
+    function(image.at, image.length, out.at, out.length, answer, sizeof answer);
     struct tinesage_answer a = tinesage_read_answer(answer);
     if (a.status == TINESAGE_DONE) {
         fputs("ok", stdout);
@@ -196,6 +201,18 @@ static bool on_compile(struct session *session, struct request *line)
     free(out.at);
     free(image.at);
     return true;
+}
+
+static bool on_compile(struct session *session, struct request *line)
+{
+    (void)session;
+    return print_written(line, tinesage_compile);
+}
+
+static bool on_describe(struct session *session, struct request *line)
+{
+    (void)session;
+    return print_written(line, tinesage_describe);
 }
 
 static bool on_load(struct session *session, struct request *line)
@@ -335,10 +352,10 @@ struct handler {
 };
 
 static const struct handler handlers[] = {
-    {"check", on_check}, {"checkbytes", on_check}, {"compile", on_compile}, {"compilebytes", on_compile},
-    {"load", on_load},   {"loadbytes", on_load},   {"new", on_new},         {"fill", on_fill},
-    {"cells", on_cells}, {"clear", on_clear},      {"poke", on_poke},       {"peek", on_peek},
-    {"call", on_call},
+    {"check", on_check},       {"checkbytes", on_check},       {"compile", on_compile}, {"compilebytes", on_compile},
+    {"describe", on_describe}, {"describebytes", on_describe}, {"load", on_load},       {"loadbytes", on_load},
+    {"new", on_new},           {"fill", on_fill},              {"cells", on_cells},     {"clear", on_clear},
+    {"poke", on_poke},         {"peek", on_peek},              {"call", on_call},
 };
 
 static bool answer_request(struct session *session, struct request *line)

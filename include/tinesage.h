@@ -25,7 +25,7 @@
  *     refused    2    number   place   0        0       0
  *
  * `count` is two words, the high one first: the trace words recorded by a call, the words written
- * by the compiler, else 0. A place is the number of an image word, from 0. docs/REFUSALS.md has an
+ * to `out`, else 0. A place is the number of an image word, from 0. docs/REFUSALS.md has an
  * example for each number.
  */
 #ifndef TINESAGE_H
@@ -40,9 +40,9 @@ extern "C" {
 
 /* The version of this interface. A new major number may break a host, a new minor number adds. */
 #define TINESAGE_VERSION_MAJOR 1
-#define TINESAGE_VERSION_MINOR 0
+#define TINESAGE_VERSION_MINOR 1
 #define TINESAGE_VERSION_PATCH 0
-#define TINESAGE_VERSION "1.0.0"
+#define TINESAGE_VERSION "1.1.0"
 
 /* ---- sizes ---- */
 
@@ -172,6 +172,9 @@ static inline struct tinesage_trace_entry tinesage_read_entry(const uint8_t *tra
 
 /* ---- the functions ---- */
 
+/* the most words of a description: 4, 2 for each of 16 arrays, 12 for each of 32 procedures */
+#define TINESAGE_MOST_DESCRIPTION 420
+
 /*
  * Checks an image, in source or compiled form.
  *
@@ -193,6 +196,32 @@ void tinesage_check(const uint8_t *image, size_t image_len, uint8_t *answer, siz
  */
 void tinesage_compile(const uint8_t *image, size_t image_len, uint8_t *out, size_t out_len,
                       uint8_t *answer, size_t answer_len);
+
+/*
+ * Describes an image, in source or compiled form: what a host has to know before it lends cells and
+ * arguments. The words of a description, for A arrays and P procedures:
+ *
+ *     word                    holds
+ *     0                       the form: 0 source, 1 compiled
+ *     1                       A, the number of arrays
+ *     2                       P, the number of procedures
+ *     3                       the number of cells of all arrays together
+ *     4 + 2 * a               array a, from 0: its label, 0 public, 1 secret
+ *     4 + 2 * a + 1           its length in cells
+ *     4 + 2 * A + 12 * f      procedure f, from 0: its mode, 0 open, 1 guarded
+ *       + 1                   the number of its parameters, at most 9: a call takes as many arguments
+ *       + 2                   the type of its result
+ *       + 3 + k               the type of parameter k, from 0 to 8; 0 where it has no such parameter
+ *
+ * A type is sort * 2 + label: 0 public word, 1 secret word, 2 public boolean, 3 secret boolean.
+ *
+ * Done: count is the number of words written, 4 + 2 * A + 12 * P; result and steps are 0.
+ * Refused: 1 to 13 as by tinesage_check; then 16, `out` has fewer words than the description.
+ * Written: the answer; where done, the first `count` words of `out`: the description. Room for
+ *   TINESAGE_MOST_DESCRIPTION words is always enough. After a refusal `out` is as before.
+ */
+void tinesage_describe(const uint8_t *image, size_t image_len, uint8_t *out, size_t out_len,
+                       uint8_t *answer, size_t answer_len);
 
 /*
  * Loads an image: where done, the host lends this image with the requests below from now on.

@@ -120,6 +120,11 @@ static void compile(struct lending *l)
     tinesage_compile(LENT(IMAGE), LENT(OUT), LENT(ANSWER));
 }
 
+static void describe(struct lending *l)
+{
+    tinesage_describe(LENT(IMAGE), LENT(OUT), LENT(ANSWER));
+}
+
 static void load(struct lending *l)
 {
     tinesage_load(LENT(IMAGE), LENT(CELLS), LENT(ANSWER));
@@ -148,6 +153,7 @@ static void call(struct lending *l)
 static const struct function functions[] = {
     {"check", 1 << IMAGE | 1 << ANSWER, check},
     {"compile", 1 << IMAGE | 1 << OUT | 1 << ANSWER, compile},
+    {"describe", 1 << IMAGE | 1 << OUT | 1 << ANSWER, describe},
     {"load", 1 << IMAGE | 1 << CELLS | 1 << ANSWER, load},
     {"clear", 1 << IMAGE | 1 << CELLS | 1 << ANSWER, clear},
     {"poke", 1 << IMAGE | 1 << CELLS | 1 << ANSWER, poke},
@@ -179,7 +185,7 @@ static uint32_t number_due(const struct function *f, const struct image *image, 
         return TINESAGE_REFUSAL_OUT_OF_RANGE;
     if (f->run == call)
         return number_of_call(image, empty);
-    return f->run == compile && (empty & 1 << OUT) != 0 ? TINESAGE_REFUSAL_OUTPUT_TOO_SHORT : 0;
+    return (f->slices & 1 << OUT) != 0 && (empty & 1 << OUT) != 0 ? TINESAGE_REFUSAL_OUTPUT_TOO_SHORT : 0;
 }
 
 /* ---- cases ---- */

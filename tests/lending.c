@@ -53,7 +53,7 @@ static void expect_answer(struct watched *w, const uint32_t words[7])
         tinesage_put_word(w->expected, i, words[i]);
 }
 
-/* The seven functions with one set of slices; the cells are lent with three spare words and three spare bytes. */
+/* The functions with one set of slices; the cells are lent with three spare words and three spare bytes. */
 #define CELLS_LENT (4 * 5 + 3)
 static struct watched answer, cells, out, trace;
 static size_t answer_length, trace_length, out_length;
@@ -81,6 +81,11 @@ static void check(size_t image_length)
 static void compile(void)
 {
     tinesage_compile(writer, sizeof writer, out.lent, out_length, answer.lent, answer_length);
+}
+
+static void describe(void)
+{
+    tinesage_describe(writer, sizeof writer, out.lent, out_length, answer.lent, answer_length);
 }
 
 static void load(size_t cells_length)
@@ -140,6 +145,30 @@ static void compile_cases(void)
         compile();
         expect_answer(&answer, (const uint32_t[7]){2, 16});
         expect_all("compile: a short slice stays");
+    }
+}
+
+/* Source form, one array, one procedure, two cells; a public array of two; an open procedure with one parameter, its
+ * types public words. */
+static const uint32_t description[] = {0, 1, 1, 2, 0, 2, 0, 1, 0, 0, 0, 0, 0, 0, 0, 0, 0, 0};
+
+static void describe_cases(void)
+{
+    for (size_t spare = 0; spare < 8; spare++) {
+        reset_all();
+        out_length = sizeof description + spare;
+        describe();
+        expect_answer(&answer, (const uint32_t[7]){0, 0, 0, 0, 0, 0, sizeof description / 4});
+        for (size_t i = 0; i < sizeof description / 4; i++)
+            tinesage_put_word(out.expected, i, description[i]);
+        expect_all("describe: only the description is written");
+    }
+    for (size_t missing = 1; missing <= sizeof description; missing++) {
+        reset_all();
+        out_length = sizeof description - missing;
+        describe();
+        expect_answer(&answer, (const uint32_t[7]){2, 16});
+        expect_all("describe: a short slice stays");
     }
 }
 
@@ -264,6 +293,7 @@ int main(void)
         tinesage_put_word(writer, i, writer_words[i]);
     check_cases();
     compile_cases();
+    describe_cases();
     load_and_clear_cases();
     poke_and_peek_cases();
     call_cases();

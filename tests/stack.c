@@ -245,14 +245,15 @@ static bool admitted(const struct shape *s)
 
 /* ---- the functions, each on a thread of its own ---- */
 
-enum function { CHECK, COMPILE, LOAD, CLEAR, POKE, PEEK, CALLED, FUNCTIONS };
-static const char *const function_names[] = {"tinesage_check", "tinesage_compile", "tinesage_load", "tinesage_clear",
-                                             "tinesage_poke",  "tinesage_peek",    "tinesage_call"};
+enum function { CHECK, COMPILE, DESCRIBE, LOAD, CLEAR, POKE, PEEK, CALLED, FUNCTIONS };
+static const char *const function_names[] = {"tinesage_check", "tinesage_compile", "tinesage_describe",
+                                             "tinesage_load",  "tinesage_clear",   "tinesage_poke",
+                                             "tinesage_peek",  "tinesage_call"};
 
 /* what docs/STACK.md states, in bytes */
-static const size_t bounds[FUNCTIONS] = {[CHECK] = 128 << 10, [COMPILE] = 192 << 10, [LOAD] = 128 << 10,
-                                         [CLEAR] = 128 << 10, [POKE] = 128 << 10,    [PEEK] = 128 << 10,
-                                         [CALLED] = 640 << 10};
+static const size_t bounds[FUNCTIONS] = {[CHECK] = 128 << 10, [COMPILE] = 192 << 10, [DESCRIBE] = 128 << 10,
+                                         [LOAD] = 128 << 10,  [CLEAR] = 128 << 10,   [POKE] = 128 << 10,
+                                         [PEEK] = 128 << 10,  [CALLED] = 640 << 10};
 
 struct job {
     enum function function;
@@ -274,6 +275,7 @@ static void *run(void *given)
     switch (job->function) {
     case CHECK: tinesage_check(image, length, job->answer, answer_len); break;
     case COMPILE: tinesage_compile(image, length, out, sizeof out, job->answer, answer_len); break;
+    case DESCRIBE: tinesage_describe(image, length, out, sizeof out, job->answer, answer_len); break;
     case LOAD: tinesage_load(image, length, cells, sizeof cells, job->answer, answer_len); break;
     case CLEAR: tinesage_clear(image, length, cells, sizeof cells, job->answer, answer_len); break;
     case POKE: tinesage_poke(image, length, cells, sizeof cells, 1, 0, 0, job->answer, answer_len); break;
@@ -391,7 +393,7 @@ static void measure_all(const struct shape *s)
     measure(COMPILE, s, &image);
     measure(CALLED, s, &image);
     /* these check the image, and what they do after it is the same for all */
-    for (int f = LOAD; f <= PEEK && s->leaf == RETURN; f++)
+    for (int f = DESCRIBE; f <= PEEK && s->leaf == RETURN; f++)
         measure((enum function)f, s, &image);
 }
 

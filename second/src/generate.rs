@@ -120,10 +120,12 @@ impl<W: Write> Generator<W> {
         let source = self.valid_program(Form::Source);
         self.send_image("check", &source)?;
         let compiled = self.compile(&source)?;
+        self.describe(&source)?;
         self.session(&source)?;
         if let Some(compiled) = compiled {
             if self.random.chance(40) {
                 self.send_image("check", &compiled)?;
+                self.describe(&compiled)?;
             }
             self.session(&compiled)?;
         }
@@ -146,10 +148,23 @@ impl<W: Write> Generator<W> {
         Ok(Some(compiled))
     }
 
+    /// Asks for the description, at times with slices that just fit or just do not.
+    fn describe(&mut self, image: &[u32]) -> io::Result<()> {
+        let answer = self.send_image("describe 420", image)?;
+        let fit = answer.split(' ').count() as u32 - 1;
+        if answer.starts_with("ok") && self.random.chance(15) {
+            let short = self.random.below(fit);
+            let capacity = self.random.pick(&[fit - 1, fit, fit + 1, short]).unwrap_or(fit);
+            self.send_image(&format!("describe {capacity}"), image)?;
+        }
+        Ok(())
+    }
+
     /// A compiled image that no compiler wrote.
     fn compiled_case(&mut self) -> io::Result<()> {
         let image = self.valid_program(Form::Compiled);
         self.send_image("check", &image)?;
+        self.describe(&image)?;
         if self.random.chance(15) {
             self.send_image("compile 20000", &image)?;
         }
@@ -188,6 +203,9 @@ impl<W: Write> Generator<W> {
         if self.random.chance(25) {
             self.send_image("compile 20000", image)?;
         }
+        if self.random.chance(15) {
+            self.describe(image)?;
+        }
         let percent = if accepted { 50 } else { 5 };
         if self.random.chance(percent) {
             self.session(image)?;
@@ -212,6 +230,7 @@ impl<W: Write> Generator<W> {
         match self.random.below(10) {
             0..=5 => self.send_image("check", image).map(|_| ()),
             6 => self.send_image("compile 20000", image).map(|_| ()),
+            7 if self.random.chance(50) => self.describe(image),
             7 => self.session(image),
             _ => self.byte_requests(image),
         }
@@ -228,7 +247,12 @@ impl<W: Write> Generator<W> {
         if self.random.chance(20) {
             bytes.push(self.random.next() as u8);
         }
-        let request = self.random.pick(&["checkbytes", "compilebytes 20000", "loadbytes"]);
+        let request = self.random.pick(&[
+            "checkbytes",
+            "compilebytes 20000",
+            "loadbytes",
+            "describebytes 420",
+        ]);
         let mut line = format!("{} ", request.unwrap_or("checkbytes"));
         line.extend(bytes.iter().map(|byte| format!("{byte:02X}")));
         self.send(line.trim_end().to_string()).map(|_| ())
@@ -257,6 +281,7 @@ impl<W: Write> Generator<W> {
             image = damage(&mut self.random, &image);
         }
         self.send_image("check", &image)?;
+        self.describe(&image)?;
         let compiled = self.compile(&image)?;
         // The longest images are sent no more often than they must be.
         if image.len() < 3000 {

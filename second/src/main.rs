@@ -7,6 +7,7 @@
 mod check;
 mod compile;
 mod damage;
+mod describe;
 mod generate;
 mod image;
 mod interpreter;

@@ -5,6 +5,7 @@ use std::io::{self, BufRead, Write};
 
 use crate::check::check;
 use crate::compile::compile;
+use crate::describe::describe;
 use crate::interpreter::Outcome;
 use crate::machine::Machine;
 use crate::refusal::Refusal;
@@ -62,6 +63,11 @@ impl Driver {
                 let (capacity, image) = fields.split_first()?;
                 let image = parse_image(name, image)?;
                 Some(listing(compile(&image, parse_number(capacity)?)))
+            }
+            "describe" | "describebytes" => {
+                let (capacity, image) = fields.split_first()?;
+                let image = parse_image(name, image)?;
+                Some(listing(describe(&image, parse_number(capacity)?)))
             }
             "load" | "loadbytes" => {
                 let image = parse_image(name, &fields)?;

@@ -7,10 +7,10 @@ use native.Mathlib.Omega.{arith}
 use lib.ListN.{length, length-take}
 use Rattle.definitions.specs.Bytes.{wordsOf}
 use Rattle.definitions.specs.Checking.{admitted}
-use Rattle.definitions.specs.Host.{wholeWords, loadBytes, clearBytes, pokeBytes, peekBytes, callBytes, checkBytes, compileBytes}
+use Rattle.definitions.specs.Host.{wholeWords, loadBytes, clearBytes, pokeBytes, peekBytes, callBytes, checkBytes, compileBytes, describeBytes}
 use Rattle.requests.specs.LongImages.{front, wholeAndShort, same-admitted}
 use Rattle.results.specs.Named.{answerPlace, checkedPlace, compiledPlace}
-use Rattle.results.specs.Images.{Admits, admits-image, checked-within, compiled-within}
+use Rattle.results.specs.Images.{Admits, admits-image, checked-within, compiled-within, described-within}
 use Rattle.results.specs.Requests.{load-within, clear-within, poke-within, peek-within, calls-image, calls-within}
 
 module _ (image : List ℕ) where
@@ -30,6 +30,10 @@ module _ (image : List ℕ) where
   pub compile-place : (out : List ℕ) → compiledPlace (compileBytes image out .0) < 4294967296
   unfolding compileBytes
   compile-place out = fits (compiled-within (wholeWords image) (wordsOf image) (wordsOf out) admits-front)
+
+  pub describe-place : (out : List ℕ) → compiledPlace (describeBytes image out .0) < 4294967296
+  unfolding describeBytes
+  describe-place out = fits (described-within (wholeWords image) (wordsOf image) (wordsOf out) admits-front)
 
   module _ (cells : List ℕ) where
     pub load-place : answerPlace (loadBytes image cells .0) < 4294967296

@@ -16,6 +16,7 @@ use Rattle.definitions.specs.declared.Compiled.{Compiled}
 use Rattle.definitions.specs.declared.Compiled.the-variants.{Written, Refused as CompileRefused}
 use Rattle.definitions.specs.Checking.{checked}
 use Rattle.definitions.specs.Compiling.{compiled}
+use Rattle.definitions.specs.Describing.{described}
 use Rattle.definitions.specs.Requests.{Served, Called, load, clear, poke, peek, call}
 
 -- whether bytes are whole words: "not whole words" is 1 for an image
@@ -53,8 +54,13 @@ compileBytes image out =
     let r : Compiled × List ℕ = compiled (wholeWords image) (wordsOf image) (wordsOf out) in
     (r .0, lent out (r .1))
 
+unfoldable pub describeBytes : List ℕ → List ℕ → Compiled × List ℕ
+describeBytes image out =
+    let r : Compiled × List ℕ = described (wholeWords image) (wordsOf image) (wordsOf out) in
+    (r .0, lent out (r .1))
+
 -- One layout for every answer: 0 done, 1 stopped, 2 refused; number; place; result; steps; the number of trace words
--- recorded, or of words written by the compiler, as two words, the high one first.
+-- recorded, or of words written to the output, as two words, the high one first.
 abbrev pub layout : ℕ → ℕ → ℕ → ℕ → ℕ → ℕ → List ℕ
 layout status number place result steps count =
     status ∷ number ∷ place ∷ result ∷ steps ∷ count / 2 ^ 32 ∷ count % 2 ^ 32 ∷ []

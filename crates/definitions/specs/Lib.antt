@@ -10,6 +10,7 @@ pub mod Labels
 pub mod Checking
 pub mod Encoding
 pub mod Compiling
+pub mod Describing
 pub mod Running
 pub mod Requests
 pub mod Host

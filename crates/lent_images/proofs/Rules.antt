@@ -1,4 +1,4 @@
--- Rules for the checker and the compiler on lent bytes. Assumes nothing.
+-- Rules for the checker, the compiler and the description on lent bytes. Assumes nothing.
 use mathlib.Core.Path.{_≡_, refl, sym, ap, _∙_}
 use mathlib.Core.Bool.{Bool, true, false}
 use mathlib.Core.List.{List, _++_}
@@ -15,16 +15,18 @@ use Rattle.definitions.specs.Reading.{Parse, got, refused}
 use Rattle.definitions.specs.Checking.{admitted, checked}
 use Rattle.definitions.specs.Encoding.{imageWords}
 use Rattle.definitions.specs.Compiling.{compiledImage, fitLocals, fits, written, compiledTree, compiled}
-use Rattle.definitions.specs.Host.{wholeWords, checkBytes, compileBytes}
+use Rattle.definitions.specs.Describing.{description, describedTree, described}
+use Rattle.definitions.specs.Host.{wholeWords, checkBytes, compileBytes, describeBytes}
 use Rattle.definitions.specs.declared.Checked.{Checked}
 use Rattle.definitions.specs.declared.Compiled.{Compiled}
 use Rattle.definitions.specs.declared.Compiled.the-variants.{Written, Refused}
 use Rattle.laws.specs.Tests.{and-right}
 use Rattle.words.proofs.Laws.{lent-front, length-wordsOf, lent-wordsOf}
-use Rattle.lent_images.specs.Counts.{countOf, Output, handed, attempt, placed, count-within}
-use Rattle.requests.specs.LongImages.{front, wholeAndShort, same-checked, same-compiled}
+use Rattle.describing.specs.Sizes.{description-short}
+use Rattle.lent_images.specs.Counts.{countOf, Output, handed, attempt, placed, count-within, count-described}
+use Rattle.requests.specs.LongImages.{front, wholeAndShort, same-admitted, same-checked, same-compiled}
 
--- what the compiler's output on the words of lent bytes leaves in them
+-- what an output on the words of lent bytes leaves in them
 abbrev onBytes : List ℕ → Output → Output
 onBytes b r = (r .0, lent b (r .1))
 
@@ -101,29 +103,43 @@ pub checked-bytes : (image part : List ℕ) (whole : Bool) (r : Checked) → par
     → r ≡ checkBytes image
 checked-bytes image part whole r e w d = d ∙ same-checked image part whole e w
 
+-- ---- an output of no more words than there is room for, into lent arrays
+
+module _ (F : List ℕ → Output) (few : (o : List ℕ) → countOf (F o .0) ≤ length o) (b result after : List ℕ) (room : ℕ) (a : Compiled)
+    (space : room ≡ min (length b / 4) (length result)) (q : _≡_ {A = Output} (a, take room after) (F (take room result))) where
+  count-few : countOf a ≤ room
+  count-few =
+      let m = few (take room result) in
+      let e : countOf a ≡ countOf (F (take room result) .0) = ap (λ (x : Output). countOf (x .0)) q in
+      let s : length (take room result) ≡ room = length-take-le room result (omega arith) in omega arith
+
+  few-asked : length after ≡ length result → (countOf a ≤ length after) × (4 * countOf a ≤ length b)
+  few-asked l = let c = count-few in (omega arith, omega arith)
+
+  handed-over : (r : Compiled) (left : List ℕ) → r ≡ a → left ≡ bytesOf (take (countOf a) after) ++ drop (4 * countOf a) b
+      → _≡_ {A = Output} (r, left) (handed b (F (take (min (length b / 4) (length result)) result)))
+  handed-over r left ra l =
+      let same : take (countOf a) (take room after) ≡ take (countOf a) after = take-take (countOf a) room after count-few in
+      let mine : _≡_ {A = Output} (r, left) (handed b (a, take room after)) = rw (ra, l, same) in
+      mine ∙ ap (handed b) q ∙ ap (λ (k : ℕ). handed b (F (take k result))) space
+
 -- ---- the compiler, with lent arrays
 
 module _ (part b result after : List ℕ) (whole : Bool) (room : ℕ) (a : Compiled) (space : room ≡ min (length b / 4) (length result))
     (q : _≡_ {A = Output} (a, take room after) (compiled whole part (take room result))) where
-  count-few : countOf a ≤ room
+  few : (o : List ℕ) → countOf (compiled whole part o .0) ≤ length o
   unfolding compiled
-  count-few =
-      let m : countOf (compiled whole part (take room result) .0) ≤ length (take room result) = count-within (admitted whole part) (take room result) in
-      let e : countOf a ≡ countOf (compiled whole part (take room result) .0) = ap (λ (x : Output). countOf (x .0)) q in
-      let s : length (take room result) ≡ room = length-take-le room result (omega arith) in omega arith
+  few o = count-within (admitted whole part) o
 
   pub hand-over-asks : length after ≡ length result → (countOf a ≤ length after) × (4 * countOf a ≤ length b)
-  hand-over-asks l = let c = count-few in (omega arith, omega arith)
+  hand-over-asks l = few-asked (compiled whole part) few b result after room a space q l
 
   pub attempted : (image : List ℕ) → part ≡ front image → whole ≡ wholeAndShort image → (r : Compiled) (left : List ℕ) → r ≡ a
       → left ≡ bytesOf (take (countOf a) after) ++ drop (4 * countOf a) b → _≡_ {A = Output} (r, left) (attempt image b result)
   unfolding attempt
   attempted image e w r left ra l =
-      let same : take (countOf a) (take room after) ≡ take (countOf a) after = take-take (countOf a) room after count-few in
-      let mine : _≡_ {A = Output} (r, left) (handed b (a, take room after)) = rw (ra, l, same) in
-      let other : compiled whole part (take room result) ≡ compiled (wholeWords image) (wordsOf image) (take (min (length b / 4) (length result)) result) =
-      same-compiled image part whole e w (take room result) ∙ ap (λ (k : ℕ). compiled (wholeWords image) (wordsOf image) (take k result)) space in
-      mine ∙ ap (handed b) (q ∙ other)
+      handed-over (compiled whole part) few b result after room a space q r left ra l
+      ∙ ap (handed b) (same-compiled image part whole e w (take (min (length b / 4) (length result)) result))
 
 -- ---- the compiler, with arrays of its own
 
@@ -172,3 +188,37 @@ written-not n e = absurd (let z : _≡_ {A = ℕ} 0 1 = cc in omega arith)
 
 pub other-not : (k p : ℕ) → (k ≡ 16 → ⊥) → Refused k p ≡ Refused 16 0 → ⊥
 other-not k p h e = h cc
+
+-- ---- the description
+
+-- the array has room for every description, so that one too long for its words is too long for the bytes
+described-on : (b old : List ℕ) → Bytes b → length old ≡ min (length b / 4) 420 → (x : Parse Image)
+    → ((tree : Image) (n : ℕ) → x ≡ got tree n → length (description tree) ≤ 420) → handed b (describedTree x old) ≡ onBytes b (describedTree x (wordsOf b))
+unfolding describedTree
+described-on b old h l (refused n p) short = refused-stays b old h (omega arith) n p
+described-on b old h l (got tree n) short =
+    let s = short tree n refl in written-stays b old h (omega arith) (description tree) (λ z. omega arith)
+
+module _ (part b result after : List ℕ) (whole : Bool) (room : ℕ) (a : Compiled) (long : length result ≡ 420) (space : room ≡ min (length b / 4) 420)
+    (q : _≡_ {A = Output} (a, take room after) (described whole part (take room result))) where
+  few-described : (o : List ℕ) → countOf (described whole part o .0) ≤ length o
+  unfolding described
+  few-described o = count-described (admitted whole part) o
+
+  room-is : room ≡ min (length b / 4) (length result)
+  room-is = space ∙ ap (λ (k : ℕ). min (length b / 4) k) (sym long)
+
+  pub describe-asks : length after ≡ length result → (countOf a ≤ length after) × (4 * countOf a ≤ length b)
+  describe-asks l = few-asked (described whole part) few-described b result after room a room-is q l
+
+  pub describe-done : (image : List ℕ) → Bytes b → part ≡ front image → whole ≡ wholeAndShort image → (r : Compiled) (left : List ℕ) → r ≡ a
+      → left ≡ bytesOf (take (countOf a) after) ++ drop (4 * countOf a) b → _≡_ {A = Output} (r, left) (describeBytes image b)
+  unfolding describeBytes described
+  describe-done image h e w r left ra l =
+      let old = take (min (length b / 4) (length result)) result in
+      let x = admitted (wholeWords image) (wordsOf image) in
+      let size : length old ≡ min (length b / 4) 420 =
+      length-take-le (min (length b / 4) (length result)) result (omega arith) ∙ ap (λ (k : ℕ). min (length b / 4) k) long in
+      handed-over (described whole part) few-described b result after room a room-is q r left ra l
+      ∙ ap (λ (y : Parse Image). handed b (describedTree y old)) (same-admitted image part whole e w)
+      ∙ described-on b old h size x (λ tree n z. description-short (wholeWords image) (wordsOf image) tree n z)

@@ -1,4 +1,4 @@
--- How many words the compiler wrote: no more than there is room for. Assumes nothing.
+-- How many words the compiler or the description wrote: no more than there is room for. Assumes nothing.
 use mathlib.Core.Path.{_≡_, refl}
 use mathlib.Core.Bool.{Bool, true, false}
 use mathlib.Core.List.{List, _++_}
@@ -14,6 +14,7 @@ use Rattle.definitions.specs.Reading.{Parse, got, refused}
 use Rattle.definitions.specs.Checking.{admitted}
 use Rattle.definitions.specs.Encoding.{imageWords}
 use Rattle.definitions.specs.Compiling.{compiledImage, fits, written, compiledTree, compiled}
+use Rattle.definitions.specs.Describing.{description, describedTree}
 use Rattle.definitions.specs.Host.{wholeWords, compileBytes}
 use Rattle.definitions.specs.declared.Compiled.{Compiled}
 use Rattle.definitions.specs.declared.Compiled.the-variants.{Written, Refused}
@@ -26,7 +27,7 @@ countOf (Refused k p) = 0
 abbrev pub Output : Type 0
 Output = Compiled × List ℕ
 
--- what the lent bytes are once the words that the compiler wrote have gone into them
+-- what the lent bytes are once the words that were written have gone into them
 abbrev pub handed : List ℕ → Output → Output
 handed b r = (r .0, bytesOf (take (countOf (r .0)) (r .1)) ++ drop (4 * countOf (r .0)) b)
 
@@ -58,7 +59,12 @@ count-within (got image n) out = go (eqb (image .form) 0)
     go true = count-placed (fits (compiledImage image)) (imageWords (compiledImage image)) out
     go false = omega arith
 
--- the same for lent bytes
+pub count-described : (x : Parse Image) (out : List ℕ) → countOf (describedTree x out .0) ≤ length out
+unfolding describedTree
+count-described (refused n p) out = omega arith
+count-described (got image n) out = count-placed true (description image) out
+
+-- the same for lent bytes, of the compiler
 pub compile-count : (image out : List ℕ) → countOf (compileBytes image out .0) ≤ length out / 4
 unfolding compileBytes compiled
 compile-count image out =

@@ -1,4 +1,4 @@
-// The checker and the compiler on lent bytes.
+// The checker, the compiler and the description of an image on lent bytes.
 use definitions::Checked;
 use definitions::Compiled;
 use tables::SIZE;
@@ -14,6 +14,8 @@ ghost use Rattle.definitions.specs.Checking.{checked};
 ghost use Rattle.definitions.specs.Compiling.{compiled};
 ghost use Rattle.definitions.specs.Host.{checkBytes, compileBytes};
 ghost use Rattle.lent_images.specs.Counts.{countOf, attempt};
+
+pub mod descriptions; // what an image has
 
 // The checker's answer alone, without the tables.
 fn check_words(image: &[u32], whole: bool) -> Checked
@@ -95,7 +97,7 @@ fn room_in(bytes: usize, most: usize) -> usize
     most
 }
 
-// The words that the compiler wrote go into the lent bytes; after a refusal these stay as they were.
+// The words that were written go into the lent bytes; after a refusal these stay as they were.
 fn hand_over(answer: Compiled, result: &[u32], out: &mut [u8]) -> Compiled
     requires { ⌜ (countOf answer ≤ length (now result)) × (4 * countOf answer ≤ length (now out)) ⌝ }
     ensures { λ r. ⌜ (r ≡ answer) × (now (out .exit) ≡ bytesOf (take (countOf answer) (now (result .entry))) ++ drop (4 * countOf answer) (now (out .entry))) ⌝ }

@@ -21,13 +21,13 @@ use Rattle.definitions.specs.Labels.{imageLabelFaults}
 use Rattle.definitions.specs.Compiling.{compiledImage}
 use Rattle.definitions.specs.Requests.{Called}
 use Rattle.definitions.specs.Host.{wholeWords, checkBytes, compileBytes, loadBytes, clearBytes, pokeBytes, peekBytes}
-use Rattle.definitions.specs.Host.{callBytes}
+use Rattle.definitions.specs.Host.{callBytes, describeBytes}
 use Rattle.statements.specs.Statements.{Iff, Exactly, AdmissibleBytes, Among, RefusesBytes, NotLoaded, Loadable, NotReady, NoCell}
 use Rattle.statements.specs.Statements.{WithCell, NotCalled, Callable, cleared, stored, ResultOrStop, stepsOf, recordedCount}
 use Rattle.statements.specs.Statements.{recordedIn, SameOrSpent, SameOrFilled, BeyondArray, DivisorZero, NotWritten}
 use Rattle.statements.specs.Statements.{Compilable, SameMeaning, Machine, empty, Request, responses, AlikeLists, SameTurns}
 use Rattle.statements.specs.Statements.{answerIn, checkedIn, compiledIn}
-use Rattle.tinesage.specs.Contracts.{Checks, Compiles, Loads, Clears, Pokes, Peeks, Calls}
+use Rattle.tinesage.specs.Contracts.{Checks, Compiles, Describes, Loads, Clears, Pokes, Peeks, Calls}
 use Rattle.results.specs.Accepted.{accepted-exactly, refused-exactly, reading-number, sort-number, label-number}
 use Rattle.results.specs.Exactly.{loaded-or-not, ready-or-not, cell-or-not, called-or-not, load-refused-exactly, load-is-done}
 use Rattle.results.specs.Exactly.{clear-refused-exactly, clear-is-done, poke-refused-exactly, poke-is-done}
@@ -227,6 +227,8 @@ pub record Functions : Type 0 where
   pub checks : (image answer answer′ : List ℕ) → 28 ≤ length answer → Checks image answer answer′ → checkedIn answer′ ≡ checkBytes image
   pub compiles : (image out answer out′ answer′ : List ℕ) → 28 ≤ length answer → Compiles image out answer out′ answer′
       → _≡_ {A = Compiled × List ℕ} (compiledIn answer′, out′) (compileBytes image out)
+  pub describes : (image out answer out′ answer′ : List ℕ) → 28 ≤ length answer → Describes image out answer out′ answer′
+      → _≡_ {A = Compiled × List ℕ} (compiledIn answer′, out′) (describeBytes image out)
   pub loads : (image cells answer cells′ answer′ : List ℕ) → 28 ≤ length answer → Loads image cells answer cells′ answer′
       → _≡_ {A = Answer × List ℕ} (answerIn answer′, cells′) (loadBytes image cells)
   pub clears : (image cells answer cells′ answer′ : List ℕ) → 28 ≤ length answer → Clears image cells answer cells′ answer′
@@ -244,6 +246,7 @@ functions =
     record {
       checks = λ image answer answer′ room a. check-read answer answer′ room (checkBytes image) a;
       compiles = λ image out answer out′ answer′ room (o, a). compile-read answer answer′ room (compileBytes image out) out′ o a;
+      describes = λ image out answer out′ answer′ room (o, a). compile-read answer answer′ room (describeBytes image out) out′ o a;
       loads = λ image cells answer cells′ answer′ room (c, a). request-read answer answer′ room (loadBytes image cells) cells′ c a;
       clears = λ image cells answer cells′ answer′ room (c, a). request-read answer answer′ room (clearBytes image cells) cells′ c a;
       pokes = λ image cells a i v answer cells′ answer′ room (c, b). request-read answer answer′ room (pokeBytes image cells a i v) cells′ c b;

@@ -1,4 +1,4 @@
--- Checking and compiling: every place that is answered is that of a word of the image, or the image's end, or 0. Assumes nothing.
+-- Checking, compiling and describing: every place that is answered is that of a word of the image, or the image's end, or 0. Assumes nothing.
 use mathlib.Core.Path.{_≡_, refl}
 use mathlib.Core.Bool.{Bool, true, false, true≢false}
 use mathlib.Core.List.{List, _++_}
@@ -15,6 +15,7 @@ use Rattle.definitions.specs.Reading.{Parse, got, refused}
 use Rattle.definitions.specs.Checking.{faultOf, withoutFault, admitted, verdict, checked}
 use Rattle.definitions.specs.Compiling.{written, compiledTree, compiled, compiledImage, fits}
 use Rattle.definitions.specs.Encoding.{imageWords}
+use Rattle.definitions.specs.Describing.{description, describedTree, described}
 use Rattle.laws.specs.Trees.{ProceduresPlaces}
 use Rattle.laws.specs.Listed.{all-sort-faults, all-label-faults}
 use Rattle.laws.specs.Faultless.{fault-all}
@@ -90,3 +91,17 @@ tree-within {n} out (admits tree m h) = go (eqb (tree .form) 0) (fits (compiledI
 pub compiled-within : {n : ℕ} (whole : Bool) (image out : List ℕ) → Admits n (admitted whole image) → compiledPlace (compiled whole image out .0) ≤ n
 unfolding compiled
 compiled-within whole image out a = tree-within out a
+
+description-within : {n : ℕ} {x : Parse Image} (out : List ℕ) → Admits n x → compiledPlace (describedTree x out .0) ≤ n
+unfolding describedTree
+description-within out (admits-not k p h) = h
+description-within {n} out (admits tree m h) = go (leb (length (description tree)) (length out))
+  where
+    go : (b : Bool) → compiledPlace (pick {A = Compiled × List ℕ} b
+        (Written (length (description tree)), description tree ++ drop (length (description tree)) out) (CompileRefused 16 0, out) .0) ≤ n
+    go true = omega arith
+    go false = omega arith
+
+pub described-within : {n : ℕ} (whole : Bool) (image out : List ℕ) → Admits n (admitted whole image) → compiledPlace (described whole image out .0) ≤ n
+unfolding described
+described-within whole image out a = description-within out a

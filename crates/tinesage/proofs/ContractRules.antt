@@ -5,9 +5,9 @@ use Prim.Native.Nat.{ℕ, _<_}
 use Rattle.definitions.specs.declared.Answer.{Answer}
 use Rattle.definitions.specs.declared.Checked.{Checked}
 use Rattle.definitions.specs.declared.Compiled.{Compiled}
-use Rattle.definitions.specs.Host.{checkBytes, compileBytes, answerWords, checkedWords, compiledWords, answerBytes}
+use Rattle.definitions.specs.Host.{checkBytes, compileBytes, describeBytes, answerWords, checkedWords, compiledWords, answerBytes}
 use Rattle.results.specs.Named.{answerPlace, checkedPlace, compiledPlace}
-use Rattle.answers.specs.Places.{check-place, compile-place}
+use Rattle.answers.specs.Places.{check-place, compile-place, describe-place}
 
 -- a request that gives its answer and the cells afterwards
 module _ (r : Answer) (after : List ℕ) (x : Answer × List ℕ) (e : (r, after) ≡ x) where
@@ -39,14 +39,18 @@ pub check-put : (image : List ℕ) (r : Checked) (answer answer′ : List ℕ) �
     → answer′ ≡ answerBytes answer (checkedWords (checkBytes image))
 check-put image r answer answer′ e h = h ∙ ap (λ (x : Checked). answerBytes answer (checkedWords x)) e
 
--- the compiler's answer
-pub compile-fits : (image out after : List ℕ) (r : Compiled) → _≡_ {A = Compiled × List ℕ} (r, after) (compileBytes image out) → compiledPlace r < 4294967296
-compile-fits image out after r e = let z : r ≡ compileBytes image out .0 = ap (λ (x : Compiled × List ℕ). x .0) e in rw z (compile-place image out)
+-- the answer of a function that writes words, with the output afterwards
+module _ (r : Compiled) (after : List ℕ) (x : Compiled × List ℕ) (e : (r, after) ≡ x) where
+  written-fits : compiledPlace (x .0) < 4294967296 → compiledPlace r < 4294967296
+  written-fits h = let z : r ≡ x .0 = ap (λ (y : Compiled × List ℕ). y .0) e in rw z h
 
-pub compile-put : (image out after : List ℕ) (r : Compiled) (answer answer′ : List ℕ) → _≡_ {A = Compiled × List ℕ} (r, after) (compileBytes image out)
-    → answer′ ≡ answerBytes answer (compiledWords r)
-    → (after ≡ compileBytes image out .1) × (answer′ ≡ answerBytes answer (compiledWords (compileBytes image out .0)))
-compile-put image out after r answer answer′ e h = (
-  ap (λ (x : Compiled × List ℕ). x .1) e,
-  h ∙ ap (λ (x : Compiled × List ℕ). answerBytes answer (compiledWords (x .0))) e,
-)
+  pub written-put : (answer answer′ : List ℕ) → answer′ ≡ answerBytes answer (compiledWords r)
+      → (after ≡ x .1) × (answer′ ≡ answerBytes answer (compiledWords (x .0)))
+  written-put answer answer′ h =
+      (ap (λ (y : Compiled × List ℕ). y .1) e, h ∙ ap (λ (y : Compiled × List ℕ). answerBytes answer (compiledWords (y .0))) e)
+
+pub compile-fits : (image out after : List ℕ) (r : Compiled) → _≡_ {A = Compiled × List ℕ} (r, after) (compileBytes image out) → compiledPlace r < 4294967296
+compile-fits image out after r e = written-fits r after (compileBytes image out) e (compile-place image out)
+
+pub describe-fits : (image out after : List ℕ) (r : Compiled) → _≡_ {A = Compiled × List ℕ} (r, after) (describeBytes image out) → compiledPlace r < 4294967296
+describe-fits image out after r e = written-fits r after (describeBytes image out) e (describe-place image out)

@@ -4,7 +4,7 @@ use mathlib.Core.Path.{_≡_}
 use mathlib.Core.List.{List}
 use Prim.Native.Nat.{ℕ}
 use Rattle.definitions.specs.declared.Answer.{Answer}
-use Rattle.definitions.specs.Host.{loadBytes, clearBytes, pokeBytes, peekBytes, callBytes, checkBytes, compileBytes}
+use Rattle.definitions.specs.Host.{loadBytes, clearBytes, pokeBytes, peekBytes, callBytes, checkBytes, compileBytes, describeBytes}
 use Rattle.definitions.specs.Host.{answerWords, checkedWords, compiledWords, answerBytes}
 
 -- the slice lent for the answer holds the answer's seven words, where there is room for them
@@ -19,6 +19,11 @@ Checks image answer answer′ = answer′ ≡ answerBytes answer (checkedWords (
 abbrev pub Compiles : List ℕ → List ℕ → List ℕ → List ℕ → List ℕ → Type 0
 Compiles image out answer out′ answer′ =
     (out′ ≡ compileBytes image out .1) × (answer′ ≡ answerBytes answer (compiledWords (compileBytes image out .0)))
+
+-- tinesage_describe
+abbrev pub Describes : List ℕ → List ℕ → List ℕ → List ℕ → List ℕ → Type 0
+Describes image out answer out′ answer′ =
+    (out′ ≡ describeBytes image out .1) × (answer′ ≡ answerBytes answer (compiledWords (describeBytes image out .0)))
 
 -- tinesage_load
 abbrev pub Loads : List ℕ → List ℕ → List ℕ → List ℕ → List ℕ → Type 0

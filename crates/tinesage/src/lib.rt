@@ -1,6 +1,6 @@
 // The library's C functions. Slices cross as a pointer and a length in bytes, words most significant byte first. Each writes its answer as seven
 // words into the slice lent for it. No function has a condition: every number and every byte gets its answer.
-ghost use Rattle.tinesage.specs.Contracts.{Checks, Compiles, Loads, Clears, Pokes, Peeks, Calls};
+ghost use Rattle.tinesage.specs.Contracts.{Checks, Compiles, Describes, Loads, Clears, Pokes, Peeks, Calls};
 
 // Checks an image.
 #[no_mangle]
@@ -17,6 +17,15 @@ pub extern "C" fn tinesage_compile(image: &[u8], out: &mut [u8], answer: &mut [u
     ensures { λ _. ⌜ Compiles (now (image .entry)) (now (out .entry)) (now (answer .entry)) (now (out .exit)) (now (answer .exit)) ⌝ }
 {
     let a = lent_images::compile_bytes(image, out);
+    answers::put_compiled(answer, a);
+}
+
+// Says what an image has: its form, its arrays, its procedures with their types.
+#[no_mangle]
+pub extern "C" fn tinesage_describe(image: &[u8], out: &mut [u8], answer: &mut [u8])
+    ensures { λ _. ⌜ Describes (now (image .entry)) (now (out .entry)) (now (answer .entry)) (now (out .exit)) (now (answer .exit)) ⌝ }
+{
+    let a = lent_images::descriptions::describe_bytes(image, out);
     answers::put_compiled(answer, a);
 }
 

@@ -1,5 +1,5 @@
 -- `tinesage::tinesage_compile` meets its contract. Assumes nothing.
-use Rattle.tinesage.proofs.ContractRules.{compile-fits, compile-put}
+use Rattle.tinesage.proofs.ContractRules.{compile-fits, written-put}
 use borrow.Author.Needs.{needs}
 use Rattle.tinesage.proofs.tinesage_compile.Statement.{statement}
 use Rattle.tinesage.proofs.tinesage_compile.Tie as tie
@@ -11,6 +11,6 @@ tinesage-compile-spec = tie.close (tie.spec
     (λ c. search needs)  -- same-length
     (λ c. search needs)  -- same-length-2
     -- returns
-    (λ c. compile-put _ _ _ _ _ _ (c .before .before .before .before .before .before .compile-bytes .ensures) (c .before .before
+    (λ c. written-put _ _ _ (c .before .before .before .before .before .before .compile-bytes .ensures) _ _ (c .before .before
         .put-compiled .ensures))
     )
