@@ -37,7 +37,7 @@ fn verdict(image: &[u32], table: &[u32; SIZE]) -> Checked
 }
 
 // Checks an image and leaves the reader's tables for the passes after; both come as zeros. `whole` tells whether the image came as whole words.
-pub fn check_with(image: &[u32], whole: bool, table: &mut [u32; SIZE], ends: &mut [u32]) -> Checked
+pub fn check_with(image: &[u32], whole: bool, table: &mut [u32; SIZE], ends: &mut [u16]) -> Checked
     requires { ⌜ (now table ≡ replicate 129 0) × (now ends ≡ replicate (length (now ends)) 0) ⌝ }
     ensures { λ r. ⌜ (r ≡ checked whole (now (image .entry)))
         × TablesLeft (readImage whole (now (image .entry))) (now (image .entry)) (now (table .exit)) (now (ends .exit)) ⌝ }

@@ -27,7 +27,7 @@ pub fn compile(image: &[u32], whole: bool, out: &mut [u32]) -> Compiled
     ensures { λ r. ⌜ (r, now (out .exit)) ≡ compiled whole (now (image .entry)) (now (out .entry)) ⌝ }
 {
     let mut table = [0u32; SIZE];
-    let mut ends = [0u32; 0];
+    let mut ends = [0u16; 0];
     match checker::check_with(image, whole, &mut table, &mut ends) {
         Checked::Refused(number, place) => Compiled::Refused(number, place),
         Checked::Accepted => compile_checked(image, &table, out),

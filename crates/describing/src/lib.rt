@@ -178,7 +178,7 @@ pub fn describe(image: &[u32], whole: bool, out: &mut [u32]) -> Compiled
     ensures { λ r. ⌜ (r, now (out .exit)) ≡ described whole (now (image .entry)) (now (out .entry)) ⌝ }
 {
     let mut table = [0u32; SIZE];
-    let mut ends = [0u32; 0];
+    let mut ends = [0u16; 0];
     match checker::check_with(image, whole, &mut table, &mut ends) {
         Checked::Refused(number, place) => Compiled::Refused(number, place),
         Checked::Accepted => describe_accepted(image, &table, out),

@@ -18,3 +18,4 @@ pub mod StatementInversion
 pub mod Tests
 pub mod Trees
 pub mod WordTests
+pub mod WordsOfBytes

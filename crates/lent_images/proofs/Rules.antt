@@ -21,7 +21,7 @@ use Rattle.definitions.specs.declared.Checked.{Checked}
 use Rattle.definitions.specs.declared.Compiled.{Compiled}
 use Rattle.definitions.specs.declared.Compiled.the-variants.{Written, Refused}
 use Rattle.laws.specs.Tests.{and-right}
-use Rattle.words.proofs.Laws.{lent-front, length-wordsOf, lent-wordsOf}
+use Rattle.laws.specs.WordsOfBytes.{lent-front, length-wordsOf, lent-wordsOf}
 use Rattle.describing.specs.Sizes.{description-short}
 use Rattle.lent_images.specs.Counts.{countOf, Output, handed, attempt, placed, count-within, count-described}
 use Rattle.requests.specs.LongImages.{front, wholeAndShort, same-admitted, same-checked, same-compiled}

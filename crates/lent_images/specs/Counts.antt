@@ -18,7 +18,7 @@ use Rattle.definitions.specs.Describing.{description, describedTree}
 use Rattle.definitions.specs.Host.{wholeWords, compileBytes}
 use Rattle.definitions.specs.declared.Compiled.{Compiled}
 use Rattle.definitions.specs.declared.Compiled.the-variants.{Written, Refused}
-use Rattle.words.proofs.Laws.{length-wordsOf}
+use Rattle.laws.specs.WordsOfBytes.{length-wordsOf}
 
 abbrev pub countOf : Compiled → ℕ
 countOf (Written n) = n

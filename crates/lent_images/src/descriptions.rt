@@ -2,6 +2,7 @@
 use super::hand_over;
 use super::room_in;
 use definitions::Compiled;
+use words::images::ENOUGH;
 use words::images::SHORT;
 use words::images::admissible;
 use words::images::read_image;
@@ -66,10 +67,13 @@ fn describe_long(image: &[u8], out: &mut [u8]) -> Compiled
     describe_with(image, out, &mut words)
 }
 
-// Describes an image that is lent as bytes into lent bytes. Those past the result stay.
+// Describes an image that is lent as bytes into lent bytes. Those past the result stay. A longer image is cut, as by `check_bytes`.
 pub fn describe_bytes(image: &[u8], out: &mut [u8]) -> Compiled
     ensures { λ r. ⌜ (r, now (out .exit)) ≡ describeBytes (now (image .entry)) (now (out .entry)) ⌝ }
 {
+    if ENOUGH < image.len() {
+        return describe_bytes(&image[..ENOUGH], out);
+    }
     if image.len() <= SHORT {
         return describe_short(image, out);
     }

@@ -2,6 +2,7 @@
 use definitions::Checked;
 use definitions::Compiled;
 use tables::SIZE;
+use words::images::ENOUGH;
 use words::images::SHORT;
 use words::images::admissible;
 use words::images::read_image;
@@ -22,7 +23,7 @@ fn check_words(image: &[u32], whole: bool) -> Checked
     ensures { λ r. ⌜ r ≡ checked whole (now (image .entry)) ⌝ }
 {
     let mut table = [0u32; SIZE];
-    let mut ends = [0u32; 0];
+    let mut ends = [0u16; 0];
     checker::check_with(image, whole, &mut table, &mut ends)
 }
 
@@ -61,10 +62,14 @@ fn check_long(image: &[u8]) -> Checked
     check_into(image, &mut words)
 }
 
-// Checks an image that is lent as bytes.
+// Checks an image that is lent as bytes. A longer one is cut by a call of itself: a function that calls itself takes no large frame into its own,
+// so that a small image needs no room for a long one's words.
 pub fn check_bytes(image: &[u8]) -> Checked
     ensures { λ r. ⌜ r ≡ checkBytes (now (image .entry)) ⌝ }
 {
+    if ENOUGH < image.len() {
+        return check_bytes(&image[..ENOUGH]);
+    }
     if image.len() <= SHORT {
         return check_short(image);
     }
@@ -142,11 +147,17 @@ fn compile_long(image: &[u8], out: &mut [u8]) -> Compiled
     compile_with(image, out, &mut words, &mut result)
 }
 
-// A short image again with long arrays, where its result was too long for the short one.
-fn compile_again(image: &[u8], out: &mut [u8]) -> Compiled
-    requires { ⌜ length (now image) ≤ 2048 ⌝ }
+// Compiles an image that is lent as bytes into lent bytes. Those past the result stay. A longer image is cut as above. A short one is compiled
+// again with long arrays, where its result was too long for the short one.
+pub fn compile_bytes(image: &[u8], out: &mut [u8]) -> Compiled
     ensures { λ r. ⌜ (r, now (out .exit)) ≡ compileBytes (now (image .entry)) (now (out .entry)) ⌝ }
 {
+    if ENOUGH < image.len() {
+        return compile_bytes(&image[..ENOUGH], out);
+    }
+    if SHORT < image.len() {
+        return compile_long(image, out);
+    }
     match compile_short(image, out) {
         Compiled::Written(count) => Compiled::Written(count),
         Compiled::Refused(number, place) => {
@@ -156,14 +167,4 @@ fn compile_again(image: &[u8], out: &mut [u8]) -> Compiled
             Compiled::Refused(number, place)
         }
     }
-}
-
-// Compiles an image that is lent as bytes into lent bytes. Those past the result stay.
-pub fn compile_bytes(image: &[u8], out: &mut [u8]) -> Compiled
-    ensures { λ r. ⌜ (r, now (out .exit)) ≡ compileBytes (now (image .entry)) (now (out .entry)) ⌝ }
-{
-    if SHORT < image.len() {
-        return compile_long(image, out);
-    }
-    compile_again(image, out)
 }

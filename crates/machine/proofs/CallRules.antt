@@ -14,7 +14,7 @@ use Rattle.tables.specs.Table.{placeIn, bodyIn, paramsIn, padded}
 use Rattle.tables.specs.Looking.{Listed, procedureIn, count-is, known-arity, known-limits, known-part, known-within, body-place, form-small}
 use Rattle.runner.specs.Runs.{Ready, nine}
 use Rattle.runner.specs.Callees.{nine-padded}
-use Rattle.words.proofs.Laws.{length-wordsOf}
+use Rattle.laws.specs.WordsOfBytes.{length-wordsOf}
 use Rattle.machine.specs.declared.Machine.{Machine}
 use Rattle.machine.specs.declared.Turn.{Turn}
 use Rattle.machine.specs.Turns.{held}

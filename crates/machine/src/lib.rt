@@ -122,7 +122,7 @@ impl Machine {
         self,
         image: &[u32],
         table: &[u32; SIZE],
-        ends: &[u32],
+        ends: &[u16],
         f: u32,
         arguments: &[u8],
         budget: u32,

@@ -10,7 +10,7 @@ use lib.Dec.{leb}
 use lib.ListN.{length, getD, take, drop, set, List·getD-append}
 use lib.Seq.{take-suc, take-suc-set, take-all, getD-take, getD-append-add, length-take-le, drop-set-lt, drop-drop}
 use Rattle.definitions.specs.Bytes.{wordAt, wordsOf}
-use Rattle.words.proofs.Laws.{length-wordsOf, getD-wordsOf}
+use Rattle.laws.specs.WordsOfBytes.{length-wordsOf, getD-wordsOf}
 use Rattle.printing.specs.Text.{wordLine, listing}
 
 length-listing : (ws : List ℕ) → length (listing ws) ≡ 9 * length ws

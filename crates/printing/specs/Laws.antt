@@ -3,7 +3,7 @@ use mathlib.Core.Path.{_≡_}
 use mathlib.Core.List.{List}
 use Prim.Native.Nat.{ℕ}
 use lib.ListN.{take, replicate}
-use Rattle.lent_images.specs.FirstBytes.{first-bytes}
+use Rattle.requests.specs.FirstBytes.{first-bytes}
 use Rattle.printing.specs.Text.{printed}
 
 pub printed-first : (image : List ℕ) → printed (take 65540 image) ≡ printed image

@@ -15,7 +15,7 @@ use Rattle.definitions.specs.declared.Compiled.the-variants.{Written, Refused a
 use Rattle.definitions.specs.Requests.{Called}
 use Rattle.definitions.specs.Host.{answerWords, checkedWords, compiledWords, answerBytes}
 use Rattle.statements.specs.Statements.{answerOf, answerIn, checkedOf, checkedIn, compiledOf, compiledIn}
-use Rattle.words.proofs.Laws.{words-first}
+use Rattle.laws.specs.WordsOfBytes.{words-first}
 
 -- a number in two words, the high one first
 two-words : (n : ℕ) → n / 2 ^ 32 * 2 ^ 32 + n % 2 ^ 32 ≡ n

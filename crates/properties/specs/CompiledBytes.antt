@@ -22,7 +22,7 @@ use Rattle.definitions.specs.Requests.{Called, call}
 use Rattle.definitions.specs.Host.{wholeWords, checkBytes, compileBytes, loadBytes, clearBytes, pokeBytes, peekBytes}
 use Rattle.definitions.specs.Host.{callBytes}
 use Rattle.statements.specs.Statements.{AdmissibleBytes, cleared, EndAlike, withGuard, SameMeaning}
-use Rattle.words.proofs.Laws.{length-bytesOf, bytesOf-append, words-first}
+use Rattle.laws.specs.WordsOfBytes.{length-bytesOf, bytesOf-append, words-first}
 use Rattle.laws.specs.Parses.{got-same}
 use Rattle.laws.specs.Admitted.{admit, admitted-read}
 use Rattle.readback.specs.Like.{LikeImage}

@@ -32,7 +32,7 @@ sound-ends image params me ends s at h = let (l, f, b, le, q) = s at h in (l, f,
 
 -- an end that does not fit an entry, or has none, is not stored
 abbrev pub marked : List ℕ → ℕ → ℕ → List ℕ
-marked ends at end = pick (ltb end 4294967296) (set ends at end) ends
+marked ends at end = pick (ltb end 65536) (set ends at end) ends
 
 zero-at : (n a : ℕ) → _≡_ {A = ℕ} (getD (replicate n 0) a 0) 0
 zero-at zero a = refl
@@ -66,7 +66,7 @@ module _ (image params : List ℕ) (me : ℕ) where
 
   pub mark-sound : (ends : List ℕ) (at l : ℕ) (b : Block) (n : ℕ) → Sound image params me ends → readBlock l params me image at ≡ got b n
       → Sound image params me (marked ends at n)
-  mark-sound ends at l b n s r = go (ltb n 4294967296)
+  mark-sound ends at l b n s r = go (ltb n 65536)
     where
       go : (t : Bool) → Sound image params me (pick t (set ends at n) ends)
       go true = set-sound ends at l b n s r

@@ -11,6 +11,7 @@ ghost use Rattle.reader.specs.Answers.{answer};
 ghost use Rattle.reader.specs.Ends.{Sound};
 ghost use Rattle.reader.specs.Left.{Begun, ProceduresLeft, ImageLeft, TablesLeft};
 use super::Read;
+use super::ends::clear_ends;
 use super::procedures::read_arrays;
 use super::procedures::read_procedure;
 use image_words::arrays;
@@ -31,7 +32,7 @@ fn read_procedures(
     form: u32,
     count: u32,
     table: &mut [u32; SIZE],
-    ends: &mut [u32],
+    ends: &mut [u16],
     at: usize,
 ) -> Read
     requires { ⌜ (form < 2) × (count ≤ 32) × (length (now image) ≤ 16384) × Begun (now table)
@@ -55,7 +56,7 @@ fn read_procedures(
 }
 
 // What follows a header that was tested, up to the image's end: "4 [first spare word]".
-fn read_rest(image: &[u32], header: u32, table: &mut [u32; SIZE], ends: &mut [u32]) -> Read
+fn read_rest(image: &[u32], header: u32, table: &mut [u32; SIZE], ends: &mut [u16]) -> Read
     requires { ⌜ (headerWord header ≡ true) × (length (now image) ≤ 16384) × (now table ≡ tableOf [] []) × Sound (now image) (paramsIn (now table)) 0 (now ends) ⌝ }
     ensures { λ r. ⌜ (r ≡ answer header (readRest header (now (image .entry))))
         × ImageLeft (readRest header (now (image .entry))) (now (image .entry)) (now (table .exit)) (now (ends .exit)) ⌝ }
@@ -75,7 +76,7 @@ fn read_rest(image: &[u32], header: u32, table: &mut [u32; SIZE], ends: &mut [u3
 }
 
 // An image, with tables of zeros. The header comes before the length.
-fn read_whole(image: &[u32], whole: bool, table: &mut [u32; SIZE], ends: &mut [u32]) -> Read
+fn read_whole(image: &[u32], whole: bool, table: &mut [u32; SIZE], ends: &mut [u16]) -> Read
     requires { ⌜ (now table ≡ tableOf [] []) × Sound (now image) (paramsIn (now table)) 0 (now ends) ⌝ }
     ensures { λ r. ⌜ (r ≡ answer (getD (now (image .entry)) 0 0) (readImage whole (now (image .entry))))
         × ImageLeft (readImage whole (now (image .entry))) (now (image .entry)) (now (table .exit)) (now (ends .exit)) ⌝ }
@@ -96,7 +97,7 @@ fn read_whole(image: &[u32], whole: bool, table: &mut [u32; SIZE], ends: &mut [u
 
 // Reads an image and leaves the tables for the passes after: what they have to know of arrays and procedures, and the place after each
 // block, as far as `ends` is long enough. Both come as zeros, and a refusal leaves zeros. `whole` tells whether the image came as whole words.
-pub fn read_image(image: &[u32], whole: bool, table: &mut [u32; SIZE], ends: &mut [u32]) -> Read
+pub fn read_image(image: &[u32], whole: bool, table: &mut [u32; SIZE], ends: &mut [u16]) -> Read
     requires { ⌜ (now table ≡ replicate 129 0) × (now ends ≡ replicate (length (now ends)) 0) ⌝ }
     ensures { λ r. ⌜ (r ≡ answer (getD (now (image .entry)) 0 0) (readImage whole (now (image .entry))))
         × TablesLeft (readImage whole (now (image .entry))) (now (image .entry)) (now (table .exit)) (now (ends .exit)) ⌝ }
@@ -106,7 +107,7 @@ pub fn read_image(image: &[u32], whole: bool, table: &mut [u32; SIZE], ends: &mu
         Read::At(header, end) => Read::At(header, end),
         Read::Refused(number, place) => {
             clear(table);
-            clear(ends);
+            clear_ends(ends);
             Read::Refused(number, place)
         }
     }

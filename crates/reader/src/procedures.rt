@@ -45,7 +45,7 @@ fn read_body(
     form: u32,
     table: &[u32; SIZE],
     me: u32,
-    ends: &mut [u32],
+    ends: &mut [u16],
     w: u32,
     at: usize,
 ) -> Read
@@ -70,7 +70,7 @@ pub fn read_procedure(
     form: u32,
     table: &[u32; SIZE],
     me: u32,
-    ends: &mut [u32],
+    ends: &mut [u16],
     at: usize,
 ) -> Read
     requires { ⌜ (form < 2) × Sound (now image) (paramsIn (now table)) me (now ends) ⌝ }

@@ -10,13 +10,12 @@ ghost use Rattle.tables.specs.Table.{paramsIn};
 ghost use Rattle.reader.specs.Answers.{answer, simpleAnswer, ifAnswer, forAnswer};
 ghost use Rattle.reader.specs.Ends.{Sound, BlockEnds};
 use super::Read;
+use super::ends::entry;
 use super::ends::mark;
 use super::expressions::read_arguments;
 use super::expressions::read_expression;
 use super::words::word;
 use image_words::called;
-use image_words::lists::element;
-use image_words::lists::wide;
 use image_words::op;
 use image_words::ops;
 use image_words::payload;
@@ -56,7 +55,7 @@ fn read_if(
     image: &[u32],
     table: &[u32; SIZE],
     me: u32,
-    ends: &mut [u32],
+    ends: &mut [u16],
     w: u32,
     at: usize,
     level: u32,
@@ -85,7 +84,7 @@ fn read_for(
     image: &[u32],
     table: &[u32; SIZE],
     me: u32,
-    ends: &mut [u32],
+    ends: &mut [u16],
     w: u32,
     at: usize,
     level: u32,
@@ -114,7 +113,7 @@ fn read_statement(
     image: &[u32],
     table: &[u32; SIZE],
     me: u32,
-    ends: &mut [u32],
+    ends: &mut [u16],
     at: usize,
     level: u32,
 ) -> Read
@@ -147,7 +146,7 @@ fn read_statements(
     image: &[u32],
     table: &[u32; SIZE],
     me: u32,
-    ends: &mut [u32],
+    ends: &mut [u16],
     count: u32,
     at: usize,
     level: u32,
@@ -174,7 +173,7 @@ pub fn read_block(
     image: &[u32],
     table: &[u32; SIZE],
     me: u32,
-    ends: &mut [u32],
+    ends: &mut [u16],
     at: usize,
     level: u32,
 ) -> Read
@@ -205,18 +204,18 @@ pub fn block_end(
     image: &[u32],
     table: &[u32; SIZE],
     me: u32,
-    ends: &[u32],
+    ends: &[u16],
     at: usize,
     level: u32,
 ) -> usize
     requires { ⌜ BlockEnds (now image) (paramsIn (now table)) (now ends) × (ok (readBlock level (paramsIn (now table)) me (now image) at) ≡ true) ⌝ }
     ensures { λ r. ⌜ r ≡ endOf (readBlock level (paramsIn (now (table .entry))) me (now (image .entry)) at) ⌝ }
 {
-    let e = element(ends, at);
+    let e = entry(ends, at);
     if e != 0 {
-        return wide(e);
+        return e;
     }
-    let mut none = [0u32; 1];
+    let mut none = [0u16; 1];
     let r = read_block(image, table, me, &mut none, at, level);
     let Read::At(_, end) = r else {
         return 0;

@@ -19,11 +19,12 @@ use Rattle.definitions.specs.declared.Checked.{Checked}
 use Rattle.definitions.specs.declared.Checked.the-variants.{Refused, Accepted}
 use Rattle.laws.specs.ReadImages.{open-image}
 use Rattle.laws.specs.ImageIn.{imageIn, image-read, length-limit}
-use Rattle.words.proofs.Laws.{length-wordsOf}
+use Rattle.laws.specs.WordsOfBytes.{length-wordsOf}
 use Rattle.tables.specs.Table.{arrayCountIn, arraysIn}
 use Rattle.tables.specs.Looking.{known-arrays, known-count, few-arrays}
 use Rattle.reader.specs.Left.{TablesLeft}
 use Rattle.requests.specs.LongImages.{same-read}
+use Rattle.requests.specs.FirstBytes.{first-read, first-loadable}
 use Rattle.laws.specs.Ready.{ready-refused, ready-accepted}
 use Rattle.checker.specs.Left.{passes}
 use Rattle.ready.specs.declared.Ready.{Ready}
@@ -162,3 +163,10 @@ left-table image x r words words′ table ends p = (p .answer, go (readImage (wh
     go : (y : Parse Image) → TablesLeft y (wordsOf image) table ends → table ≡ tableLeft y
     go (got tree n) t = t .filled
     go (refused k q) t = t .0
+
+-- a longer image is cut
+pub first-ready : (image : List ℕ) → 65540 < length image → (count : ℕ) (r : Ready) (table : List ℕ)
+    → (r ≡ readied (readyToLoad (wholeWords (take 65540 image)) (wordsOf (take 65540 image)) count))
+    × (table ≡ tableLeft (readImage (wholeWords (take 65540 image)) (wordsOf (take 65540 image))))
+    → (r ≡ readied (readyToLoad (wholeWords image) (wordsOf image) count)) × (table ≡ tableLeft (readImage (wholeWords image) (wordsOf image)))
+first-ready image h count r table (a, t) = (a ∙ ap readied (first-loadable image h count), t ∙ ap tableLeft (first-read image h))

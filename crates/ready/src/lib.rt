@@ -2,6 +2,7 @@
 use definitions::Checked;
 use requests::cells::cell_count;
 use tables::SIZE;
+use words::images::ENOUGH;
 use words::images::SHORT;
 use words::images::admissible;
 use words::images::read_image;
@@ -43,7 +44,7 @@ fn judge(
     whole: bool,
     count: usize,
     table: &mut [u32; SIZE],
-    ends: &mut [u32],
+    ends: &mut [u16],
 ) -> Ready
     requires { ⌜ (now table ≡ replicate 129 0) × (now ends ≡ replicate (length (now ends)) 0) ⌝ }
     ensures { λ r. ⌜ (r ≡ readied (readyToLoad whole (now (words .entry)) count))
@@ -62,7 +63,7 @@ fn judge_front(
     whole: bool,
     count: usize,
     table: &mut [u32; SIZE],
-    ends: &mut [u32],
+    ends: &mut [u16],
 ) -> Ready
     requires { ⌜ (n ≤ length (now words)) × (now table ≡ replicate 129 0) × (now ends ≡ replicate (length (now ends)) 0) ⌝ }
     ensures { λ r. ⌜ (r ≡ readied (readyToLoad whole (take n (now (words .entry))) count))
@@ -77,7 +78,7 @@ fn prepare(
     count: usize,
     words: &mut [u32],
     table: &mut [u32; SIZE],
-    ends: &mut [u32],
+    ends: &mut [u16],
 ) -> Ready
     requires { ⌜ (min (length (now image) / 4) 16384 ≤ length (now words)) × (now table ≡ replicate 129 0) × (now ends ≡ replicate (length (now ends)) 0) ⌝ }
     ensures { λ r. ⌜ Prepared r (readyToLoad (wholeWords (now (image .entry))) (wordsOf (now (image .entry))) count) (now (image .entry))
@@ -94,7 +95,7 @@ pub fn prepare_to_serve(
     count: usize,
     words: &mut [u32],
     table: &mut [u32; SIZE],
-    ends: &mut [u32],
+    ends: &mut [u16],
 ) -> Ready
     requires { ⌜ (min (length (now image) / 4) 16384 ≤ length (now words)) × (now table ≡ replicate 129 0) × (now ends ≡ replicate (length (now ends)) 0) ⌝ }
     ensures { λ r. ⌜ Prepared r (readyToServe (wholeWords (now (image .entry))) (wordsOf (now (image .entry))) count) (now (image .entry))
@@ -113,7 +114,7 @@ fn load_short(image: &[u8], count: usize, table: &mut [u32; SIZE]) -> Ready
         × (now (table .exit) ≡ tableLeft (readImage (wholeWords (now (image .entry))) (wordsOf (now (image .entry))))) ⌝ }
 {
     let mut words = [0u32; 512];
-    let mut ends = [0u32; 0];
+    let mut ends = [0u16; 0];
     prepare(image, count, &mut words, table, &mut ends)
 }
 
@@ -124,16 +125,20 @@ fn load_long(image: &[u8], count: usize, table: &mut [u32; SIZE]) -> Ready
         × (now (table .exit) ≡ tableLeft (readImage (wholeWords (now (image .entry))) (wordsOf (now (image .entry))))) ⌝ }
 {
     let mut words = [0u32; 16384];
-    let mut ends = [0u32; 0];
+    let mut ends = [0u16; 0];
     prepare(image, count, &mut words, table, &mut ends)
 }
 
-// For a load, which needs no more than the table.
+// For a load, which needs no more than the table. A longer image is cut by a call of itself: a function that calls itself takes no large frame into
+// its own, so that a small image needs no room for a long one's words.
 pub fn ready_to_load(image: &[u8], count: usize, table: &mut [u32; SIZE]) -> Ready
     requires { ⌜ now table ≡ replicate 129 0 ⌝ }
     ensures { λ r. ⌜ (r ≡ readied (readyToLoad (wholeWords (now (image .entry))) (wordsOf (now (image .entry))) count))
         × (now (table .exit) ≡ tableLeft (readImage (wholeWords (now (image .entry))) (wordsOf (now (image .entry))))) ⌝ }
 {
+    if ENOUGH < image.len() {
+        return ready_to_load(&image[..ENOUGH], count, table);
+    }
     if image.len() <= SHORT {
         return load_short(image, count, table);
     }

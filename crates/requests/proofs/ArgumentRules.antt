@@ -12,7 +12,7 @@ use Rattle.definitions.specs.Arithmetic.{truth}
 use Rattle.definitions.specs.Image.{typeSort}
 use Rattle.definitions.specs.Requests.{answered, argumentValues}
 use Rattle.tables.specs.Table.{padded}
-use Rattle.words.proofs.Laws.{length-wordsOf, getD-wordsOf}
+use Rattle.laws.specs.WordsOfBytes.{length-wordsOf, getD-wordsOf}
 
 pub answer-word : (type v s : ℕ) → s ≡ typeSort type → (s ≡ 1 → ⊥) → v ≡ answered type v
 answer-word type v s e h = rw (← e, ne-eqb s 1 h)

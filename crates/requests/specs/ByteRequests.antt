@@ -12,7 +12,7 @@ use Rattle.definitions.specs.Requests.{carriedOut, zeroed, load, clear, poke, p
 use Rattle.definitions.specs.Host.{wholeWords, onCells, loadBytes, clearBytes, pokeBytes, peekBytes, callBytes}
 use Rattle.definitions.specs.declared.Answer.{Answer}
 use Rattle.definitions.specs.declared.Answer.the-variants.{Refused}
-use Rattle.words.proofs.Laws.{lent-front, length-wordsOf, lent-wordsOf}
+use Rattle.laws.specs.WordsOfBytes.{lent-front, length-wordsOf, lent-wordsOf}
 use Rattle.requests.specs.OwnCells.{clearOn, pokeOn, peekOn}
 use Rattle.requests.specs.SpareCells.{behind, behindCall, clear-spare, poke-spare, peek-spare, poke-long}
 use Rattle.requests.specs.SpareCells.{peek-long, Spares, call-spare}

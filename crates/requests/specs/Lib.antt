@@ -4,3 +4,4 @@ pub mod SpareRuns
 pub mod SpareCells
 pub mod LongImages
 pub mod ByteRequests
+pub mod FirstBytes

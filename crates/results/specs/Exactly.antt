@@ -26,7 +26,7 @@ use Rattle.statements.specs.Statements.{Iff, AdmissibleBytes, NotLoaded, bad-im
 use Rattle.statements.specs.Statements.{as-by-load, NoCell, unready-for-cell, cell-missing, WithCell, NotCalled}
 use Rattle.statements.specs.Statements.{unready-for-call, procedure-missing, other-count, Callable, RefusedOr, cleared}
 use Rattle.statements.specs.Statements.{stored, ResultOrStop, with-result, with-stop}
-use Rattle.words.proofs.Laws.{lent-front, length-wordsOf, getD-wordsOf, length-bytesOf, lent-wordsOf}
+use Rattle.laws.specs.WordsOfBytes.{lent-front, length-wordsOf, getD-wordsOf, length-bytesOf, lent-wordsOf}
 use Rattle.laws.specs.Ready.{ready-refused}
 use Rattle.laws.specs.Cells.{has-within}
 use Rattle.readback.specs.Like.{LikeImage, like-procedure-count}

@@ -23,7 +23,7 @@ use Rattle.definitions.specs.Requests.{ended, calledOn, servedCall, call}
 use Rattle.definitions.specs.Host.{wholeWords, callBytes}
 use Rattle.statements.specs.Statements.{stepsOf, recordedCount, recordedIn, BeyondArray, DivisorZero, SameOrSpent}
 use Rattle.statements.specs.Statements.{same-call, spent-budget, SameOrFilled, same-answer, filled-trace}
-use Rattle.words.proofs.Laws.{words-first}
+use Rattle.laws.specs.WordsOfBytes.{words-first}
 use Rattle.laws.specs.Admitted.{admitted-read}
 use Rattle.laws.specs.Faultless.{faultless}
 use Rattle.laws.specs.Reads.{Inside}

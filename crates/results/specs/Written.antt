@@ -22,7 +22,7 @@ use Rattle.definitions.specs.Compiling.{compiledImage, fits, written, compiledT
 use Rattle.definitions.specs.Host.{wholeWords, checkBytes, compileBytes}
 use Rattle.statements.specs.Statements.{Iff, AdmissibleBytes, RefusedOr, NotWritten, source-refused, given-form-1}
 use Rattle.statements.specs.Statements.{beyond-limits, short-output, Compilable}
-use Rattle.words.proofs.Laws.{lent-front, length-wordsOf, lent-wordsOf}
+use Rattle.laws.specs.WordsOfBytes.{lent-front, length-wordsOf, lent-wordsOf}
 use Rattle.readback.specs.LikeCompiled.{like-compiled-words, like-compiled-fits}
 use Rattle.results.specs.Accepted.{accepted-bytes, admissible-admitted}
 

@@ -17,11 +17,12 @@ use Rattle.image_words.specs.Read.{StatementRead, BlockRead, statementsAt}
 use Rattle.image_words.specs.StatementParts.{no-statement, first-statement, read-statement, block-statements}
 use Rattle.tables.specs.Table.{paramsIn}
 use Rattle.tracing.specs.Log.{Log, log, byteTrace}
-use Rattle.runner.specs.declared.Ran.{Ran}
-use Rattle.runner.specs.declared.Ran.the-variants.{On, Back, Stop as Halt}
-use Rattle.runner.specs.Runs.{Went, went, finished, placed, ending, callees, statementAt, blockAt, passesAt}
+use Rattle.simple_statements.specs.declared.Ran.{Ran}
+use Rattle.simple_statements.specs.declared.Ran.the-variants.{On, Back, Stop as Halt}
+use Rattle.simple_statements.specs.Runs.{Went, went, finished, placed, ending, callees, statementAt}
+use Rattle.runner.specs.Runs.{blockAt, passesAt}
 use Rattle.runner.specs.Results.{ending-on}
-use Rattle.runner.proofs.Ran.{the-type}
+use Rattle.simple_statements.proofs.Ran.{the-type}
 
 -- ---- an answer that ends the run: a return or a stop
 

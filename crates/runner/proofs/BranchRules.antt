@@ -20,13 +20,14 @@ use Rattle.tracing.specs.declared.Value.the-variants.{Got, Stop}
 use Rattle.tracing.specs.Log.{Log, log, byteTrace}
 use Rattle.tracing.specs.Answers.{evaluation, until}
 use Rattle.evaluator.specs.Results.{until-got, until-stop}
-use Rattle.runner.specs.declared.Ran.{Ran}
-use Rattle.runner.specs.declared.Ran.the-variants.{On, Stop as Halt}
-use Rattle.runner.specs.declared.Bounds.{Bounds}
-use Rattle.runner.specs.declared.Bounds.the-variants.{Both, None}
-use Rattle.runner.specs.Runs.{finished, stoppedAt, placed, ending, callees, statementAt, blockAt, passesAt, branchAt, Range}
-use Rattle.runner.specs.Runs.{range, bounded, rangeNoted, bounds, boundsAt}
-use Rattle.runner.proofs.StatementRules.{within-two}
+use Rattle.simple_statements.specs.declared.Ran.{Ran}
+use Rattle.simple_statements.specs.declared.Ran.the-variants.{On, Stop as Halt}
+use Rattle.simple_statements.specs.declared.Bounds.{Bounds}
+use Rattle.simple_statements.specs.declared.Bounds.the-variants.{Both, None}
+use Rattle.simple_statements.specs.Runs.{finished, stoppedAt, placed, ending, callees, statementAt, branchAt, Range}
+use Rattle.runner.specs.Runs.{blockAt, passesAt}
+use Rattle.simple_statements.specs.Runs.{range, bounded, rangeNoted, bounds, boundsAt}
+use Rattle.simple_statements.proofs.StatementRules.{within-two}
 use Rattle.runner.proofs.BlockRules.{Ended, ended-same, at-block, block-on, block-end}
 
 -- ---- if

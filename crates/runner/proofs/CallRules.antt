@@ -25,14 +25,15 @@ use Rattle.tracing.specs.declared.Value.the-variants.{Got, Stop}
 use Rattle.tracing.specs.Log.{Log, log, byteTrace}
 use Rattle.tracing.specs.Answers.{evaluation, until}
 use Rattle.evaluator.specs.Results.{until-got, until-stop}
-use Rattle.runner.specs.declared.Ran.{Ran}
-use Rattle.runner.specs.declared.Ran.the-variants.{On, Back, Stop as Halt}
+use Rattle.simple_statements.specs.declared.Ran.{Ran}
+use Rattle.simple_statements.specs.declared.Ran.the-variants.{On, Back, Stop as Halt}
 use Rattle.runner.specs.declared.Finished.{Finished}
 use Rattle.runner.specs.declared.Finished.the-variants.{Gave, Halt as Halted}
 use Rattle.runner.specs.Callees.{callee-at, framed-is}
 use Rattle.runner.specs.Results.{ending-on, ending-back, ending-halt}
-use Rattle.runner.specs.Runs.{Ready, finished, stoppedAt, placed, ending, callees, statementAt, blockAt, returned, framed, procedureRun}
-use Rattle.runner.specs.Runs.{Values, given, framing, valuesAt}
+use Rattle.simple_statements.specs.Runs.{finished, stoppedAt, placed, ending, callees, statementAt}
+use Rattle.runner.specs.Runs.{Ready, blockAt, returned, framed, procedureRun}
+use Rattle.simple_statements.specs.Runs.{Values, given, framing, valuesAt}
 use Rattle.runner.proofs.BlockRules.{at-block}
 
 -- ---- the values

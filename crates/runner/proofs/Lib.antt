@@ -1,6 +1,3 @@
-pub mod PartRules
-pub mod ArgumentRules
-pub mod StatementRules
 pub mod BlockRules
 pub mod BranchRules
 pub mod CallRules

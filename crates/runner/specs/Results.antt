@@ -4,9 +4,9 @@ use mathlib.Core.List.{List}
 use Prim.Native.Nat.{ℕ}
 use Rattle.definitions.specs.Running.{on, halt, Outcome, next, back, Ran as Run}
 use Rattle.tracing.specs.Log.{Log, log}
-use Rattle.runner.specs.declared.Ran.{Ran}
-use Rattle.runner.specs.declared.Ran.the-variants.{On, Back, Stop as Halt}
-use Rattle.runner.specs.Runs.{finished, placed, ending}
+use Rattle.simple_statements.specs.declared.Ran.{Ran}
+use Rattle.simple_statements.specs.declared.Ran.the-variants.{On, Back, Stop as Halt}
+use Rattle.simple_statements.specs.Runs.{finished, placed, ending}
 
 on-of : (vs cs slice : List ℕ) (n m u z : ℕ) (x : Run Log Outcome) → finished (On m u z) vs cs slice ≡ ending n x
     → (x ≡ on (next vs cs) z (log u slice)) × (n ≡ m)

@@ -1,17 +1,5 @@
 // Blocks, and the statements that run blocks: a cycle of calls under a falling level; a call goes to a lower procedure.
-use super::Bounds;
 use super::Finished;
-use super::PARAMETERS;
-use super::Point;
-use super::Ran;
-use super::Scope;
-use super::parts::arguments;
-use super::parts::branch;
-use super::parts::range;
-use super::parts::stopped;
-use super::statements::run_assign;
-use super::statements::run_return;
-use super::statements::run_store;
 use evaluator::CELLS;
 use evaluator::VARIABLES;
 use image_words::called;
@@ -25,6 +13,18 @@ use image_words::payload;
 use image_words::result;
 use image_words::target;
 use reader::statements::block_end;
+use simple_statements::Bounds;
+use simple_statements::PARAMETERS;
+use simple_statements::Point;
+use simple_statements::Ran;
+use simple_statements::Scope;
+use simple_statements::parts::arguments;
+use simple_statements::parts::branch;
+use simple_statements::parts::range;
+use simple_statements::parts::stopped;
+use simple_statements::statements::run_assign;
+use simple_statements::statements::run_return;
+use simple_statements::statements::run_store;
 use tables::SIZE;
 use tracing::Value;
 ghost use mathlib.Core.Path.{_≡_};
@@ -36,13 +36,14 @@ ghost use Rattle.laws.specs.ImageIn.{imageIn};
 ghost use Rattle.image_words.specs.Read.{StatementRead, BlockRead};
 ghost use Rattle.tables.specs.Table.{paramsIn};
 ghost use Rattle.tracing.specs.Log.{log};
-ghost use Rattle.runner.specs.Runs.{Ready, framed, finished, returned, statementAt, blockAt, passesAt, procedureRun};
+ghost use Rattle.simple_statements.specs.Runs.{finished, statementAt};
+ghost use Rattle.runner.specs.Runs.{Ready, framed, returned, blockAt, passesAt, procedureRun};
 
 // The arm that is taken; the other is passed over by the table of ends.
 fn run_if(
     image: &[u32],
     table: &[u32; SIZE],
-    ends: &[u32],
+    ends: &[u16],
     vars: &mut [u32; VARIABLES],
     cells: &mut [u32; CELLS],
     trace: &mut [u8],
@@ -108,7 +109,7 @@ fn run_if(
 fn run_passes(
     image: &[u32],
     table: &[u32; SIZE],
-    ends: &[u32],
+    ends: &[u16],
     vars: &mut [u32; VARIABLES],
     cells: &mut [u32; CELLS],
     trace: &mut [u8],
@@ -153,7 +154,7 @@ fn run_passes(
 fn run_for(
     image: &[u32],
     table: &[u32; SIZE],
-    ends: &[u32],
+    ends: &[u16],
     vars: &mut [u32; VARIABLES],
     cells: &mut [u32; CELLS],
     trace: &mut [u8],
@@ -227,7 +228,7 @@ fn frame_of(values: &[u32; PARAMETERS]) -> [u32; VARIABLES]
 pub fn run_body(
     image: &[u32],
     table: &[u32; SIZE],
-    ends: &[u32],
+    ends: &[u16],
     values: &[u32; PARAMETERS],
     cells: &mut [u32; CELLS],
     trace: &mut [u8],
@@ -262,7 +263,7 @@ pub fn run_body(
 fn run_call(
     image: &[u32],
     table: &[u32; SIZE],
-    ends: &[u32],
+    ends: &[u16],
     vars: &mut [u32; VARIABLES],
     cells: &mut [u32; CELLS],
     trace: &mut [u8],
@@ -323,7 +324,7 @@ fn run_call(
 fn run_statement(
     image: &[u32],
     table: &[u32; SIZE],
-    ends: &[u32],
+    ends: &[u16],
     vars: &mut [u32; VARIABLES],
     cells: &mut [u32; CELLS],
     trace: &mut [u8],
@@ -359,7 +360,7 @@ fn run_statement(
 fn run_block(
     image: &[u32],
     table: &[u32; SIZE],
-    ends: &[u32],
+    ends: &[u16],
     vars: &mut [u32; VARIABLES],
     cells: &mut [u32; CELLS],
     trace: &mut [u8],

@@ -1,8 +1,8 @@
 // A whole procedure, as a host's call runs it: the contract speaks of the definition's trace words, not of bytes.
 use super::Finished;
-use super::PARAMETERS;
 use super::blocks::run_body;
 use evaluator::CELLS;
+use simple_statements::PARAMETERS;
 use tables::SIZE;
 ghost use mathlib.Core.Path.{_≡_};
 ghost use mathlib.Core.List.{[]};
@@ -25,7 +25,7 @@ pub enum Execution {
 pub fn run_procedure(
     image: &[u32],
     table: &[u32; SIZE],
-    ends: &[u32],
+    ends: &[u16],
     values: &[u32; PARAMETERS],
     cells: &mut [u32; CELLS],
     trace: &mut [u8],

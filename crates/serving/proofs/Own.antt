@@ -10,7 +10,7 @@ use Rattle.definitions.specs.Reading.{got, readImage}
 use Rattle.definitions.specs.Requests.{ready, readyToLoad, readyToServe, Ready as Readiness}
 use Rattle.definitions.specs.Host.{wholeWords}
 use Rattle.laws.specs.ImageIn.{imageIn}
-use Rattle.words.proofs.Laws.{length-wordsOf}
+use Rattle.laws.specs.WordsOfBytes.{length-wordsOf}
 use Rattle.tables.specs.Table.{arraysIn, Known}
 use Rattle.tables.specs.Looking.{known-arrays, few-cells}
 use Rattle.requests.specs.Cells.{Fits, known-fits}

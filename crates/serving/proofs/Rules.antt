@@ -15,7 +15,7 @@ use Rattle.definitions.specs.declared.Answer.{Answer}
 use Rattle.definitions.specs.declared.Answer.the-variants.{Refused}
 use Rattle.laws.specs.ImageIn.{imageIn, length-limit}
 use Rattle.laws.specs.ReadImages.{open-image}
-use Rattle.words.proofs.Laws.{lent-front, length-wordsOf, lent-wordsOf}
+use Rattle.laws.specs.WordsOfBytes.{lent-front, length-wordsOf, lent-wordsOf}
 use Rattle.tables.specs.Table.{arraysIn}
 use Rattle.tables.specs.Looking.{image-short}
 use Rattle.requests.specs.Cells.{Fits, hasCellIn}

@@ -4,6 +4,7 @@ use machine::Machine;
 use ready::Ready;
 use ready::prepare_to_serve;
 use tables::SIZE;
+use words::images::ENOUGH;
 use words::images::SHORT;
 ghost use mathlib.Core.Path.{_≡_};
 ghost use Prim.Native.Nat.{_/_, _*_, _≤_, min};
@@ -22,7 +23,7 @@ const SMALL: usize = 256;
 fn call_cells(
     words: &[u32],
     table: &[u32; SIZE],
-    ends: &[u32],
+    ends: &[u16],
     cells: &mut [u8],
     own: usize,
     f: u32,
@@ -47,7 +48,7 @@ fn call_with(
     budget: u32,
     trace: &mut [u8],
     words: &mut [u32],
-    ends: &mut [u32],
+    ends: &mut [u16],
 ) -> Answer
     requires { ⌜ (min (length (now image) / 4) 16384 ≤ length (now words)) × (now ends ≡ replicate (length (now ends)) 0) ⌝ }
     ensures { λ r. ⌜ (r, now (cells .exit), now (trace .exit)) ≡ callBytes (now (image .entry)) (now (cells .entry)) f (now (arguments .entry)) budget (now (trace .entry)) ⌝ }
@@ -85,7 +86,7 @@ fn call_small(
     ensures { λ r. ⌜ (r, now (cells .exit), now (trace .exit)) ≡ callBytes (now (image .entry)) (now (cells .entry)) f (now (arguments .entry)) budget (now (trace .entry)) ⌝ }
 {
     let mut words = [0u32; 64];
-    let mut ends = [0u32; 64];
+    let mut ends = [0u16; 64];
     call_with(
         image,
         cells,
@@ -111,7 +112,7 @@ fn call_short(
     ensures { λ r. ⌜ (r, now (cells .exit), now (trace .exit)) ≡ callBytes (now (image .entry)) (now (cells .entry)) f (now (arguments .entry)) budget (now (trace .entry)) ⌝ }
 {
     let mut words = [0u32; 512];
-    let mut ends = [0u32; 512];
+    let mut ends = [0u16; 512];
     call_with(
         image,
         cells,
@@ -136,7 +137,7 @@ fn call_long(
     ensures { λ r. ⌜ (r, now (cells .exit), now (trace .exit)) ≡ callBytes (now (image .entry)) (now (cells .entry)) f (now (arguments .entry)) budget (now (trace .entry)) ⌝ }
 {
     let mut words = [0u32; 16384];
-    let mut ends = [0u32; 16384];
+    let mut ends = [0u16; 16384];
     call_with(
         image,
         cells,
@@ -149,7 +150,8 @@ fn call_long(
     )
 }
 
-// Procedure f on the arguments, in at most `budget` steps.
+// Procedure f on the arguments, in at most `budget` steps. A longer image is cut by a call of itself: a function that calls itself takes no large
+// frame into its own, so that a small routine needs no room for a long one's words.
 pub fn call(
     image: &[u8],
     cells: &mut [u8],
@@ -160,6 +162,9 @@ pub fn call(
 ) -> Answer
     ensures { λ r. ⌜ (r, now (cells .exit), now (trace .exit)) ≡ callBytes (now (image .entry)) (now (cells .entry)) f (now (arguments .entry)) budget (now (trace .entry)) ⌝ }
 {
+    if ENOUGH < image.len() {
+        return call(&image[..ENOUGH], cells, f, arguments, budget, trace);
+    }
     if image.len() <= SMALL {
         return call_small(image, cells, f, arguments, budget, trace);
     }

@@ -9,7 +9,7 @@ use lib.ListN.{length, take}
 use lib.Seq.{take-all}
 use Rattle.definitions.specs.Bytes.{wordsOf}
 use Rattle.definitions.specs.Host.{wholeWords}
-use Rattle.words.proofs.Laws.{length-wordsOf}
+use Rattle.laws.specs.WordsOfBytes.{length-wordsOf}
 
 pub short-read : (image out : List ℕ) (n : ℕ) → take n out ≡ take n (wordsOf image) → n ≡ length image / 4 → n ≤ 16384
     → take n out ≡ take 16384 (wordsOf image)

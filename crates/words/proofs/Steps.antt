@@ -8,7 +8,7 @@ use native.Mathlib.Omega.{arith}
 use lib.ListN.{length, getD, take, drop, set, length-append, length-drop}
 use lib.Seq.{sets, sets-eq, take-suc, take-suc-set, take-at, drop-append-add, drop-drop, length-take-le}
 use Rattle.definitions.specs.Bytes.{wordAt, wordsOf, word4, bytesOf}
-use Rattle.words.proofs.Laws.{length-wordsOf, getD-wordsOf, length-bytesOf, bytesOf-append}
+use Rattle.laws.specs.WordsOfBytes.{length-wordsOf, getD-wordsOf, length-bytesOf, bytesOf-append}
 
 -- the four stores of a word
 pub stores : (l : List ℕ) (at w : ℕ)

@@ -14,6 +14,9 @@ const LONGEST: usize = 16384;
 // An image of so many bytes is short: arrays of its size spare the time to fill larger ones.
 pub const SHORT: usize = 2048;
 
+// So many bytes of an image tell its answer: one word more than any form admits.
+pub const ENOUGH: usize = 65540;
+
 // The first 16,384 words of an image go to the front, and how many there are: a longer image is refused by its header or its length alone.
 pub fn read_image(image: &[u8], words: &mut [u32]) -> usize
     requires { ⌜ min (length (now image) / 4) 16384 ≤ length (now words) ⌝ }

@@ -6,7 +6,7 @@ use Rattle.answers.proofs.put_answer.Statement.{statement}
 use Rattle.answers.proofs.put_answer.Tie as tie
 
 pub put-answer-spec : {M : Type 1} → statement M
-put-answer-spec = tie.close (tie.spec
+put-answer-spec = let answers = tie.spec
     (λ c. search needs)  -- enum-known-answer
     (λ c κs. search (answer·rules, needs))  -- put-layout-requires
     (λ c. search needs)  -- enum-known-answer-2
@@ -19,4 +19,4 @@ put-answer-spec = tie.close (tie.spec
     (λ c. search (answer·rules, needs))  -- returns-2
     (λ c. search needs)  -- same-length-3
     (λ c. search (answer·rules, needs))  -- returns-3
-    )
+    in tie.close answers

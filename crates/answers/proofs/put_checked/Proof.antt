@@ -6,7 +6,7 @@ use Rattle.answers.proofs.put_checked.Statement.{statement}
 use Rattle.answers.proofs.put_checked.Tie as tie
 
 pub put-checked-spec : {M : Type 1} → statement M
-put-checked-spec = tie.close (tie.spec
+put-checked-spec = let answers = tie.spec
     (λ c. search needs)  -- enum-told
     (λ c κs. search (checked·rules, needs))  -- put-layout-requires
     (λ c. search needs)  -- enum-known-answer
@@ -15,4 +15,4 @@ put-checked-spec = tie.close (tie.spec
     (λ c. search (checked·rules, needs))  -- returns
     (λ c. search needs)  -- same-length-2
     (λ c. search (checked·rules, needs))  -- returns-2
-    )
+    in tie.close answers

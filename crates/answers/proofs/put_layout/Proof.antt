@@ -6,7 +6,7 @@ use Rattle.answers.proofs.put_layout.Statement.{statement}
 use Rattle.answers.proofs.put_layout.Tie as tie
 
 pub put-layout-spec : {M : Type 1} → statement M
-put-layout-spec = tie.close (tie.spec
+put-layout-spec = let answers = tie.spec
     (λ c. search (layout-short, needs))  -- returns
     (λ c. search needs)  -- cast-word
     (λ c. search needs)  -- cast-high
@@ -15,4 +15,4 @@ put-layout-spec = tie.close (tie.spec
     (λ c κs. search needs)  -- write-words-requires
     (λ c. search needs)  -- same-length
     (λ c. layout-put _ _ _ _ _ _ _ _ (c .before .before .before .before .before .if1 .left) (c .before .before .write-words .ensures))  -- returns-2
-    )
+    in tie.close answers

@@ -5,7 +5,7 @@ use Rattle.checker.proofs.check_with.Statement.{statement}
 use Rattle.checker.proofs.check_with.Tie as tie
 
 pub check-with-spec : {M : Type 1} → statement M
-check-with-spec = tie.close (tie.spec
+check-with-spec = let answers = tie.spec
     (λ c κs. search needs) (λ c. search needs) (λ c. search needs)  -- read-image-requires, enum-known-r, enum-known-r-2
     -- verdict-requires
     (λ c κs. let read-image· = c .before .before .before .before .before .before .read-image in verdict-asks _ _ _ _ (read-image·
@@ -24,4 +24,4 @@ check-with-spec = tie.close (tie.spec
           (read-image· .ensures .0) _ _ (c .before .before .before .r2 .given .1) _ (c .verdict .ensures),
       read-image· .ensures .1,
     ))
-    )
+    in tie.close answers

@@ -20,22 +20,29 @@ abbrev μ-loop : tie.MeasureT-loop
 μ-loop image table out₀ o count me₀ c₀ out me c = count - me
 
 pub emit-each-spec : {M : Type 1} → statement M
-emit-each-spec = tie.close (tie.spec Inv-loop μ-loop
+emit-each-spec = let answers = tie.spec Inv-loop μ-loop
     (λ c. image-some _ _ (c .before .before .before .pre .0))  -- shared-slice-read-procedures
     (λ c κs. search needs)  -- procedures-requires
     (λ c. (search needs, search needs, refl))  -- loop-holds
     -- emit-one-requires
-    (λ c κs. let pre· = c .before .before .before .before .before .before .before .pre in (next-listed _ _ _ _ (pre· .0) (c .before
-        .before .before .procedures .ensures) (c .before .loop-test .taken), pre· .1))
+    (λ c κs. let pre· = c .before .before .before .before .before .before .before .pre in (
+      next-listed _ _ _ _ (pre· .0) (c .before
+          .before .before .procedures .ensures) (c .before .loop-test .taken),
+      pre· .1,
+    ))
     (λ c. search needs) (λ c. search needs)  -- add-me, loop-less
     -- loop-again
-    (λ c. (search needs, search needs, each-more _ _ (c .before .before .before .before .before .before .before .before .before
-        .before .before .before .pre .0) _ _ (c .before .before .before .before .before .before .before .loop .c) _ _ (c .before
-        .before .before .before .before .before .before .loop .inv .2) _ (c .before .before .before .before .before .before .before
-        .before .procedures .ensures) (c .before .before .before .before .before .before .loop-test .taken) _ _ (c .before .before
-        .before .before .emit-one .ensures)))
+    (λ c. (
+      search needs,
+      search needs,
+      each-more _ _ (c .before .before .before .before .before .before .before .before .before
+          .before .before .before .pre .0) _ _ (c .before .before .before .before .before .before .before .loop .c) _ _ (c .before
+          .before .before .before .before .before .before .loop .inv .2) _ (c .before .before .before .before .before .before .before
+          .before .procedures .ensures) (c .before .before .before .before .before .before .loop-test .taken) _ _ (c .before .before
+          .before .before .emit-one .ensures),
+    ))
     (λ c. search needs)  -- same-length
     -- returns
     (λ c. each-done _ _ (c .before .before .before .before .before .before .pre .0) _ _ (c .before .loop .c) _ _ (c .before .loop
-        .inv .2) _ (c .before .before .procedures .ensures) (c .loop-test .left))
-    )
+    .inv .2) _ (c .before .before .procedures .ensures) (c .loop-test .left))
+    in tie.close answers

@@ -5,7 +5,7 @@ use Rattle.compiler.proofs.emit_one.Statement.{statement}
 use Rattle.compiler.proofs.emit_one.Tie as tie
 
 pub emit-one-spec : {M : Type 1} → statement M
-emit-one-spec = tie.close (tie.spec
+emit-one-spec = let answers = tie.spec
     (λ c κs. search needs) (λ c. search needs) (λ c. search needs)  -- place-requires, add-start, add-start-2
     (λ c κs. search needs) (λ c. search needs)  -- body-requires, mul-emit-procedure
     -- sub-emit-procedure
@@ -15,9 +15,13 @@ emit-one-spec = tie.close (tie.spec
     -- part-emit-procedure-end
     (λ c. types-within _ _ _ (c .before .before .before .before .pre .0) _ (c .before .place .ensures .0) _ (c .body .ensures .0))
     -- emit-procedure-requires
-    (λ c κs. let pre· = c .before .before .before .before .before .before .pre in (pre· .0, pre· .1, types-are _ _ _ (pre· .0) _ (c
-        .before .before .before .place .ensures .0) _ (c .before .before .body .ensures .0)))
+    (λ c κs. let pre· = c .before .before .before .before .before .before .pre in (
+      pre· .0,
+      pre· .1,
+      types-are _ _ _ (pre· .0) _ (c
+          .before .before .before .place .ensures .0) _ (c .before .before .body .ensures .0),
+    ))
     (λ c κs. search needs) (λ c. search needs)  -- most-locals-requires, same-length
     -- returns
     (λ c. one-on _ _ _ _ _ _ _ (c .before .most-locals .ensures) (c .before .before .before .before .emit-procedure .ensures))
-    )
+    in tie.close answers

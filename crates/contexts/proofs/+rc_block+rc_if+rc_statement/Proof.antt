@@ -99,8 +99,8 @@ rc-statement-callees t = (
   wide-reads.Learnt,
 )
 
-pub +rc-block+rc-if+rc-statement-spec : {M : Type 1} → statement M
-+rc-block+rc-if+rc-statement-spec = close μ-rc-block μ-rc-if μ-rc-statement (λ t. rc-block-lts.spec (rc-block-callees t) (rc-block-at t) rc-block.Post rc-block-Inv-loop rc-block-μ-loop
+rc-block-answers : {M : Type 1} (t : ℕ) → rc-block-lts.Closed (rc-block-callees t) (rc-block-at t) rc-block.Post M
+rc-block-answers t = rc-block-lts.spec (rc-block-callees t) (rc-block-at t) rc-block.Post rc-block-Inv-loop rc-block-μ-loop
     (λ c. search needs) (λ c. search needs) (λ c κs. search needs)  -- mul-payload, shared-slice-read-payload, payload-requires
     (λ c. search needs)  -- add-a
     -- loop-holds
@@ -115,7 +115,9 @@ pub +rc-block+rc-if+rc-statement-spec : {M : Type 1} → statement M
     (λ c. search needs) (λ c. search needs)  -- add-j, loop-less
     (λ c. (search needs, search block-again, search block-more))  -- loop-again
     (λ c. search (block-done, needs))  -- returns
-    ) (λ t. rc-if-lts.spec (rc-if-callees t) (rc-if-at t) rc-if.Post
+
+rc-if-answers : {M : Type 1} (t : ℕ) → rc-if-lts.Closed (rc-if-callees t) (rc-if-at t) rc-if.Post M
+rc-if-answers t = rc-if-lts.spec (rc-if-callees t) (rc-if-at t) rc-if.Post
     (λ c. search needs) (λ c. search needs)  -- add-secret-expression, sub-secret-expression
     -- secret-expression-requires
     (λ c κs. read-if _ _ _ _ _ (c .before .before .pre .1 .0 .read) _ refl (c .before .before .pre .1 .1))
@@ -138,7 +140,9 @@ pub +rc-block+rc-if+rc-statement-spec : {M : Type 1} → statement M
     (λ c. let pre· = c .before .before .before .before .before .before .before .before .before .pre .1 in pass-if _ _ _ _ _ _ _ _ _
     (pre· .0 .read) _ refl (pre· .1) _ (c .before .before .before .before .before .before .secret-expression .ensures) _ _ (c
     .before .before .before .rc-block .ensures) (c .before .before .rc-block2 .ensures))
-    ) λ t. rc-statement-lts.spec (rc-statement-callees t) (rc-statement-at t) rc-statement.Post
+
+rc-statement-answers : {M : Type 1} (t : ℕ) → rc-statement-lts.Closed (rc-statement-callees t) (rc-statement-at t) rc-statement.Post M
+rc-statement-answers t = rc-statement-lts.spec (rc-statement-callees t) (rc-statement-at t) rc-statement.Post
     (λ c. search needs) (λ c. search needs) (λ c κs. search needs)  -- mul-w, shared-slice-read-w, op-requires
     (λ c. search needs)  -- add-skip
     -- skip-requires
@@ -194,3 +198,6 @@ pub +rc-block+rc-if+rc-statement-spec : {M : Type 1} → statement M
     .before .before .before .before .before .before .if3 .left) (c .before .before .before .before .before .if4 .left) (c
     .before .before .before .before .if5 .left)) (c .before .before .before .called .ensures .0) (c .before .before .parameters
     .ensures) (c .before .wide .ensures .0) (c .skip5 .ensures))
+
+pub +rc-block+rc-if+rc-statement-spec : {M : Type 1} → statement M
++rc-block+rc-if+rc-statement-spec = close μ-rc-block μ-rc-if μ-rc-statement rc-block-answers rc-if-answers rc-statement-answers

@@ -58,8 +58,8 @@ abbrev secret-two-callees : ℕ → secret-two-lts.Claims
 secret-two-callees t =
     (secret-expression-below t, secret-expression.Post)
 
-pub +secret-expression+secret-two-spec : {M : Type 1} → statement M
-+secret-expression+secret-two-spec = close μ-secret-expression μ-secret-two (λ t. secret-expression-lts.spec (secret-expression-callees t) (secret-expression-at t) secret-expression.Post
+secret-expression-answers : {M : Type 1} (t : ℕ) → secret-expression-lts.Closed (secret-expression-callees t) (secret-expression-at t) secret-expression.Post M
+secret-expression-answers t = secret-expression-lts.spec (secret-expression-callees t) (secret-expression-at t) secret-expression.Post
     (λ c. search needs) (λ c. search needs) (λ c κs. search needs)  -- mul-w, shared-slice-read-w, kind-requires
     (λ c. search needs)  -- add-t18
     (λ c. search (see·rules, needs))  -- returns
@@ -127,8 +127,13 @@ pub +secret-expression+secret-two-spec : {M : Type 1} → statement M
     .before .if3 .left) (c .before .before .before .before .before .before .before .if4 .left) (c .before .before .before
     .before .before .before .if5 .left) (c .before .before .before .before .before .if6 .left) (c .before .before .before
     .before .if7 .left)) _ (c .before .before .before .secret-expression3 .ensures) _ (c .before .before .secret-two2 .ensures))
-    ) λ t. secret-two-lts.spec (secret-two-callees t) (secret-two-at t) secret-two.Post
+
+secret-two-answers : {M : Type 1} (t : ℕ) → secret-two-lts.Closed (secret-two-callees t) (secret-two-at t) secret-two.Post M
+secret-two-answers t = secret-two-lts.spec (secret-two-callees t) (secret-two-at t) secret-two.Post
     (λ c κs. search needs)  -- secret-expression-requires
     -- secret-expression-requires-2
     (λ c κs. (search needs, second-fine _ _ _ _ _ _ (c .before .before .before .pre .1 .second) (c .secret-expression .ensures)))
     (λ c. search (see-two, needs))  -- returns
+
+pub +secret-expression+secret-two-spec : {M : Type 1} → statement M
++secret-expression+secret-two-spec = close μ-secret-expression μ-secret-two secret-expression-answers secret-two-answers

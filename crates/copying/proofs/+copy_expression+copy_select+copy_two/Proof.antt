@@ -83,8 +83,8 @@ abbrev copy-two-callees : ℕ → copy-two-lts.Claims
 copy-two-callees t =
     (copy-expression-below t, copy-expression.Post)
 
-pub +copy-expression+copy-select+copy-two-spec : {M : Type 1} → statement M
-+copy-expression+copy-select+copy-two-spec = close μ-copy-expression μ-copy-select μ-copy-two (λ t. copy-expression-lts.spec (copy-expression-callees t) (copy-expression-at t) copy-expression.Post
+copy-expression-answers : {M : Type 1} (t : ℕ) → copy-expression-lts.Closed (copy-expression-callees t) (copy-expression-at t) copy-expression.Post M
+copy-expression-answers t = copy-expression-lts.spec (copy-expression-callees t) (copy-expression-at t) copy-expression.Post
     (λ c. search needs) (λ c. search needs) (λ c κs. search needs)  -- mul-w, shared-slice-read-w, kind-requires
     (λ c κs. search needs) (λ c. search needs)  -- copy-word-requires, same-length
     (λ c. search (copy·rules, needs))  -- returns
@@ -146,7 +146,9 @@ pub +copy-expression+copy-select+copy-two-spec : {M : Type 1} → statement M
     ))
     (λ c. search needs)  -- same-length-8
     (λ c. search (copy·rules, needs))  -- returns-8
-    ) (λ t. copy-select-lts.spec (copy-select-callees t) (copy-select-at t) copy-select.Post
+
+copy-select-answers : {M : Type 1} (t : ℕ) → copy-select-lts.Closed (copy-select-callees t) (copy-select-at t) copy-select.Post M
+copy-select-answers t = copy-select-lts.spec (copy-select-callees t) (copy-select-at t) copy-select.Post
     (λ c κs. search needs) (λ c. search needs) (λ c. search needs)  -- put-requires, add-copy-expression, sub-copy-expression
     -- copy-expression-requires
     (λ c κs. (
@@ -165,7 +167,9 @@ pub +copy-expression+copy-select+copy-two-spec : {M : Type 1} → statement M
     ))
     (λ c. search needs)  -- same-length
     (λ c. search (copy-select, needs))  -- returns
-    ) λ t. copy-two-lts.spec (copy-two-callees t) (copy-two-at t) copy-two.Post
+
+copy-two-answers : {M : Type 1} (t : ℕ) → copy-two-lts.Closed (copy-two-callees t) (copy-two-at t) copy-two.Post M
+copy-two-answers t = copy-two-lts.spec (copy-two-callees t) (copy-two-at t) copy-two.Post
     (λ c κs. search needs)  -- copy-expression-requires
     -- copy-expression-requires-2
     (λ c κs. (
@@ -175,3 +179,6 @@ pub +copy-expression+copy-select+copy-two-spec : {M : Type 1} → statement M
     ))
     (λ c. search needs)  -- same-length
     (λ c. search (copy-two, needs))  -- returns
+
+pub +copy-expression+copy-select+copy-two-spec : {M : Type 1} → statement M
++copy-expression+copy-select+copy-two-spec = close μ-copy-expression μ-copy-select μ-copy-two copy-expression-answers copy-select-answers copy-two-answers

@@ -22,11 +22,11 @@ abbrev μ-loop : tie.MeasureT-loop
 μ-loop image out₀ at o count first level j₀ a₀ p₀ out j a p = count - j
 
 pub copy-arguments-spec : {M : Type 1} → statement M
-copy-arguments-spec = tie.close (tie.spec Inv-loop μ-loop
+copy-arguments-spec = let answers = tie.spec Inv-loop μ-loop
     (λ c. (search needs, search needs, search needs, search needs, search arguments-ready, search arguments-begin))  -- loop-holds
     (λ c κs. search argument-read)  -- copy-expression-requires
     (λ c. search needs) (λ c. search needs)  -- add-j, loop-less
     (λ c. (search needs, search needs, search needs, search needs, search arguments-again, search arguments-more))  -- loop-again
     (λ c. search needs)  -- same-length
     (λ c. search (arguments-done, needs))  -- returns
-    )
+    in tie.close answers

@@ -7,19 +7,19 @@ use Rattle.describing.proofs.describe.Statement.{statement}
 use Rattle.describing.proofs.describe.Tie as tie
 
 pub describe-spec : {M : Type 1} → statement M
-describe-spec = tie.close (tie.spec
-    (λ c. search needs) -- slice-aggregate-check-with
-    (λ c κs. (refl, refl)) -- check-with-requires
-    (λ c. search needs) -- enum-known-number
-    (λ c. search needs) -- enum-told
+describe-spec = let answers = tie.spec
+    (λ c. search needs)  -- slice-aggregate-check-with
+    (λ c κs. (refl, refl))  -- check-with-requires
+    (λ c. search needs)  -- enum-known-number
+    (λ c. search needs)  -- enum-told
     -- describe-accepted-requires
     (λ c κs. let check-with· = c .before .before .before .before .before .check-with in let p = passes _ _ _ _ _ (check-with·
-        .ensures .0) (c .before .before .enum-told .given .1) (check-with· .ensures .1) in (p .known, p .clean))
+    .ensures .0) (c .before .before .enum-told .given .1) (check-with· .ensures .1) in (p .known, p .clean))
     -- returns
     (λ c. refused-too _ _ _ (c .before .before .before .before .check-with .ensures .0) _ _ (c .before .number .given .1) _)
-    (λ c. search needs) -- same-length
+    (λ c. search needs)  -- same-length
     -- returns-2
     (λ c. let check-with· = c .before .before .before .before .before .before .before .before .check-with in written-whole _ _ _
-        _ _ (passes _ _ _ _ _ (check-with· .ensures .0) (c .before .before .before .before .before .enum-told .given .1)
-        (check-with· .ensures .1) .isWhole) (c .before .before .describe-accepted .ensures))
-    )
+    _ _ (passes _ _ _ _ _ (check-with· .ensures .0) (c .before .before .before .before .before .enum-told .given .1)
+    (check-with· .ensures .1) .isWhole) (c .before .before .describe-accepted .ensures))
+    in tie.close answers

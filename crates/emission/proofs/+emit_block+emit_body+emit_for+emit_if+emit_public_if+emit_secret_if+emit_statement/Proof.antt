@@ -204,8 +204,8 @@ emit-statement-callees t = (
   emit-simple-reads.Learnt,
 )
 
-pub +emit-block+emit-body+emit-for+emit-if+emit-public-if+emit-secret-if+emit-statement-spec : {M : Type 1} → statement M
-+emit-block+emit-body+emit-for+emit-if+emit-public-if+emit-secret-if+emit-statement-spec = close μ-emit-block μ-emit-body μ-emit-for μ-emit-if μ-emit-public-if μ-emit-secret-if μ-emit-statement (λ t. emit-block-lts.spec (emit-block-callees t) (emit-block-at t) emit-block.Post emit-block-Inv-loop emit-block-μ-loop
+emit-block-answers : {M : Type 1} (t : ℕ) → emit-block-lts.Closed (emit-block-callees t) (emit-block-at t) emit-block.Post M
+emit-block-answers t = emit-block-lts.spec (emit-block-callees t) (emit-block-at t) emit-block.Post emit-block-Inv-loop emit-block-μ-loop
     (λ c. search needs) (λ c. search needs) (λ c κs. search needs)  -- mul-payload, shared-slice-read-payload, payload-requires
     (λ c. search needs)  -- add-t12
     -- loop-holds
@@ -272,7 +272,9 @@ pub +emit-block+emit-body+emit-for+emit-if+emit-public-if+emit-secret-if+emit-st
         taken = search needs;
       },
     ))
-    ) (λ t. emit-body-lts.spec (emit-body-callees t) (emit-body-at t) emit-body.Post
+
+emit-body-answers : {M : Type 1} (t : ℕ) → emit-body-lts.Closed (emit-body-callees t) (emit-body-at t) emit-body.Post M
+emit-body-answers t = emit-body-lts.spec (emit-body-callees t) (emit-body-at t) emit-body.Post
     (λ c κs. search needs)  -- put-requires
     -- emit-block-requires
     (λ c κs. (
@@ -313,7 +315,9 @@ pub +emit-block+emit-body+emit-for+emit-if+emit-public-if+emit-secret-if+emit-st
         );
       },
     ))
-    ) (λ t. emit-for-lts.spec (emit-for-callees t) (emit-for-at t) emit-for.Post
+
+emit-for-answers : {M : Type 1} (t : ℕ) → emit-for-lts.Closed (emit-for-callees t) (emit-for-at t) emit-for.Post M
+emit-for-answers t = emit-for-lts.spec (emit-for-callees t) (emit-for-at t) emit-for.Post
     (λ c. search needs) (λ c. search needs) (λ c κs. search needs)  -- mul-target, shared-slice-read-target, target-requires
     (λ c κs. search needs) (λ c. search needs) (λ c. search needs)  -- renumber-requires, add-emit-for-head, sub-emit-for-head
     -- emit-for-head-requires
@@ -385,7 +389,9 @@ pub +emit-block+emit-body+emit-for+emit-if+emit-public-if+emit-secret-if+emit-st
         taken = omega (arith, emit-body· .ensures .1, emit-for-head· .ensures);
       },
     ))
-    ) (λ t. emit-if-lts.spec (emit-if-callees t) (emit-if-at t) emit-if.Post
+
+emit-if-answers : {M : Type 1} (t : ℕ) → emit-if-lts.Closed (emit-if-callees t) (emit-if-at t) emit-if.Post M
+emit-if-answers t = emit-if-lts.spec (emit-if-callees t) (emit-if-at t) emit-if.Post
     (λ c. search needs) (λ c. search needs)  -- add-secret-expression, sub-secret-expression
     -- secret-expression-requires
     (λ c κs. let pre· = c .before .before .before .before .pre .1 in read-if _ _ _ _ _ (pre· .0 .read) _ refl (pre· .2))
@@ -415,7 +421,9 @@ pub +emit-block+emit-body+emit-for+emit-if+emit-public-if+emit-secret-if+emit-st
       ),
     ))
     (λ c. search needs) (λ c. search needs)  -- same-length-2, returns-2
-    ) (λ t. emit-public-if-lts.spec (emit-public-if-callees t) (emit-public-if-at t) emit-public-if.Post
+
+emit-public-if-answers : {M : Type 1} (t : ℕ) → emit-public-if-lts.Closed (emit-public-if-callees t) (emit-public-if-at t) emit-public-if.Post M
+emit-public-if-answers t = emit-public-if-lts.spec (emit-public-if-callees t) (emit-public-if-at t) emit-public-if.Post
     (λ c. search needs) (λ c. search needs)  -- add-emit-if-head, sub-emit-if-head
     -- emit-if-head-requires
     (λ c κs. let pre· = c .before .before .before .before .before .pre .1 in read-if _ _ _ _ _ (pre· .0 .read) _ refl (pre· .2))
@@ -517,7 +525,9 @@ pub +emit-block+emit-body+emit-for+emit-if+emit-public-if+emit-secret-if+emit-st
         );
       },
     ))
-    ) (λ t. emit-secret-if-lts.spec (emit-secret-if-callees t) (emit-secret-if-at t) emit-secret-if.Post
+
+emit-secret-if-answers : {M : Type 1} (t : ℕ) → emit-secret-if-lts.Closed (emit-secret-if-callees t) (emit-secret-if-at t) emit-secret-if.Post M
+emit-secret-if-answers t = emit-secret-if-lts.spec (emit-secret-if-callees t) (emit-secret-if-at t) emit-secret-if.Post
     (λ c κs. search needs) (λ c. search needs) (λ c. search needs)  -- act-at-requires, add-emit-condition, sub-emit-condition
     -- emit-condition-requires
     (λ c κs. let pre· = c .before .before .before .before .before .before .pre .1 in (
@@ -645,7 +655,9 @@ pub +emit-block+emit-body+emit-for+emit-if+emit-public-if+emit-secret-if+emit-st
         taken = omega (arith, emit-block2· .ensures .1, emit-block· .ensures .1, emit-condition· .ensures);
       },
     ))
-    ) λ t. emit-statement-lts.spec (emit-statement-callees t) (emit-statement-at t) emit-statement.Post
+
+emit-statement-answers : {M : Type 1} (t : ℕ) → emit-statement-lts.Closed (emit-statement-callees t) (emit-statement-at t) emit-statement.Post M
+emit-statement-answers t = emit-statement-lts.spec (emit-statement-callees t) (emit-statement-at t) emit-statement.Post
     (λ c. search needs) (λ c. search needs) (λ c κs. search needs)  -- mul-op, shared-slice-read-op, op-requires
     -- emit-if-requires
     (λ c κs. (
@@ -685,3 +697,6 @@ pub +emit-block+emit-body+emit-for+emit-if+emit-public-if+emit-secret-if+emit-st
           .before .before .args .types .now),
       c .before .before .emit-simple .ensures .1,
     ))
+
+pub +emit-block+emit-body+emit-for+emit-if+emit-public-if+emit-secret-if+emit-statement-spec : {M : Type 1} → statement M
++emit-block+emit-body+emit-for+emit-if+emit-public-if+emit-secret-if+emit-statement-spec = close μ-emit-block μ-emit-body μ-emit-for μ-emit-if μ-emit-public-if μ-emit-secret-if μ-emit-statement emit-block-answers emit-body-answers emit-for-answers emit-if-answers emit-public-if-answers emit-secret-if-answers emit-statement-answers

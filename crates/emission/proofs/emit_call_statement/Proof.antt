@@ -6,7 +6,7 @@ use Rattle.emission.proofs.emit_call_statement.Statement.{statement}
 use Rattle.emission.proofs.emit_call_statement.Tie as tie
 
 pub emit-call-statement-spec : {M : Type 1} → statement M
-emit-call-statement-spec = tie.close (tie.spec
+emit-call-statement-spec = let answers = tie.spec
     (λ c. search needs) (λ c. search needs) (λ c κs. search needs)  -- mul-w, shared-slice-read-w, called-requires
     -- is-guarded-requires
     (λ c κs. let args· = c .before .before .before .before .args in let pre· = c .before .before .before .before .pre in
@@ -69,4 +69,4 @@ emit-call-statement-spec = tie.close (tie.spec
         );
       },
     ))
-    )
+    in tie.close answers

@@ -8,7 +8,7 @@ use Rattle.emission.proofs.emit_simple.Statement.{statement}
 use Rattle.emission.proofs.emit_simple.Tie as tie
 
 pub emit-simple-spec : {M : Type 1} → statement M
-emit-simple-spec = tie.close (tie.spec
+emit-simple-spec = let answers = tie.spec
     (λ c. search needs) (λ c. search needs) (λ c κs. search needs)  -- mul-w, shared-slice-read-w, op-requires
     (λ c κs. search needs) (λ c κs. search needs) (λ c κs. search needs)  -- act-at-requires, target-requires, renumber-requires
     (λ c. search needs) (λ c. search needs)  -- add-emit-assign, sub-emit-assign
@@ -86,4 +86,4 @@ emit-simple-spec = tie.close (tie.spec
           pre· .3 (told (op· .ensures) h)) (c .before .if3 .left),
     ))
     (λ c. search needs) (λ c. search needs)  -- same-length-4, returns-4
-    )
+    in tie.close answers

@@ -122,8 +122,8 @@ operand-callees t = (
   evaluate.Post,
 )
 
-pub +evaluate+evaluate-binary+evaluate-select+operand-spec : {M : Type 1} → statement M
-+evaluate+evaluate-binary+evaluate-select+operand-spec = close μ-evaluate μ-evaluate-binary μ-evaluate-select μ-operand (λ t. evaluate-lts.spec (evaluate-callees t) (evaluate-at t) evaluate.Post
+evaluate-answers : {M : Type 1} (t : ℕ) → evaluate-lts.Closed (evaluate-callees t) (evaluate-at t) evaluate.Post M
+evaluate-answers t = evaluate-lts.spec (evaluate-callees t) (evaluate-at t) evaluate.Post
     (λ c. search needs) (λ c. search needs) (λ c κs. search needs)  -- mul-w, shared-slice-read-w, kind-requires
     (λ c κs. search needs)  -- payload-requires
     -- evaluate-binary-requires
@@ -247,7 +247,9 @@ pub +evaluate+evaluate-binary+evaluate-select+operand-spec : {M : Type 1} → st
     ))
     (λ c. search needs)  -- same-length-6
     (λ c. c .before .before .evaluate-select .ensures)  -- returns-10
-    ) (λ t. evaluate-binary-lts.spec (evaluate-binary-callees t) (evaluate-binary-at t) evaluate-binary.Post
+
+evaluate-binary-answers : {M : Type 1} (t : ℕ) → evaluate-binary-lts.Closed (evaluate-binary-callees t) (evaluate-binary-at t) evaluate-binary.Post M
+evaluate-binary-answers t = evaluate-binary-lts.spec (evaluate-binary-callees t) (evaluate-binary-at t) evaluate-binary.Post
     (λ c. search needs) (λ c. search needs)  -- binary-add-operand, binary-sub-operand
     -- binary-operand-requires
     (λ c κs. let pre· = c .before .before .before .pre .1 in (
@@ -288,7 +290,9 @@ pub +evaluate+evaluate-binary+evaluate-select+operand-spec : {M : Type 1} → st
     .before .operand .ensures) _ _ _ (c .before .before .before .before .before .before .before .before .before .before .before
     .before .r .given .1) _ _ (c .before .before .before .before .before .before .before .before .before .operand2 .ensures) _ _
     _ (c .before .before .before .before .before .s .given .1) _ _ _ (pre· .3) (pre· .2) (c .before .before .operate .ensures))
-    ) (λ t. evaluate-select-lts.spec (evaluate-select-callees t) (evaluate-select-at t) evaluate-select.Post
+
+evaluate-select-answers : {M : Type 1} (t : ℕ) → evaluate-select-lts.Closed (evaluate-select-callees t) (evaluate-select-at t) evaluate-select.Post M
+evaluate-select-answers t = evaluate-select-lts.spec (evaluate-select-callees t) (evaluate-select-at t) evaluate-select.Post
     (λ c. search needs)  -- select-add-operand
     (λ c. omega (arith, c .before .before .before .pre .1 .0 .deep))  -- select-sub-operand
     -- select-operand-requires
@@ -359,7 +363,9 @@ pub +evaluate+evaluate-binary+evaluate-select+operand-spec : {M : Type 1} → st
     .before .before .before .before .before .before .before .before .before .before .before .before .operand2 .ensures) _ _ _ (c
     .before .before .before .before .before .before .before .before .before .s .given .1) _ _ (c .before .before .before .before
     .before .before .operand3 .ensures) _ _ _ _ (pre· .2) (c .before .before .t .given .1) (c .choose .ensures))
-    ) λ t. operand-lts.spec (operand-callees t) (operand-at t) operand.Post
+
+operand-answers : {M : Type 1} (t : ℕ) → operand-lts.Closed (operand-callees t) (operand-at t) operand.Post M
+operand-answers t = operand-lts.spec (operand-callees t) (operand-at t) operand.Post
     (λ c. search needs) (λ c. search needs) (λ c κs. search needs)  -- mul-w, shared-slice-read-w, kind-requires
     (λ c κs. search needs) (λ c κs. search needs) (λ c κs. search needs)  -- payload-requires, wide-requires, element-requires
     (λ c. search needs)  -- add-t20
@@ -382,3 +388,6 @@ pub +evaluate+evaluate-binary+evaluate-select+operand-spec : {M : Type 1} → st
     ))
     (λ c. search needs)  -- same-length
     (λ c. c .before .before .evaluate .ensures)  -- returns-3
+
+pub +evaluate+evaluate-binary+evaluate-select+operand-spec : {M : Type 1} → statement M
++evaluate+evaluate-binary+evaluate-select+operand-spec = close μ-evaluate μ-evaluate-binary μ-evaluate-select μ-operand evaluate-answers evaluate-binary-answers evaluate-select-answers operand-answers

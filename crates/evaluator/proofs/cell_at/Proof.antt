@@ -5,7 +5,7 @@ use Rattle.evaluator.proofs.cell_at.Statement.{statement}
 use Rattle.evaluator.proofs.cell_at.Tie as tie
 
 pub cell-at-spec : {M : Type 1} → statement M
-cell-at-spec = tie.close (tie.spec
+cell-at-spec = let answers = tie.spec
     (λ c κs. search needs) (λ c. search needs) (λ c. search needs)  -- index-at-requires, enum-known-r, enum-told
     (λ c. search needs)  -- same-length
     -- returns
@@ -14,4 +14,4 @@ cell-at-spec = tie.close (tie.spec
     -- returns-2
     (λ c. cell-got _ _ _ _ _ _ _ _ _ _ (c .before .before .before .before .before .before .before .before .index-at .ensures) _ _ _
     _ _ (c .before .before .before .before .r .given .1) (c .before .wide .ensures .0) (c .element .ensures))
-    )
+    in tie.close answers

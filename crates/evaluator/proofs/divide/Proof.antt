@@ -5,7 +5,7 @@ use Rattle.evaluator.proofs.divide.Statement.{statement}
 use Rattle.evaluator.proofs.divide.Tie as tie
 
 pub divide-spec : {M : Type 1} → statement M
-divide-spec = tie.close (tie.spec
+divide-spec = let answers = tie.spec
     (λ c κs. search needs) (λ c. search needs) (λ c. search needs)  -- note-requires, enum-known-r, enum-told
     (λ c. search needs)  -- same-length
     -- returns
@@ -28,4 +28,4 @@ divide-spec = tie.close (tie.spec
     .before .before .before .note .ensures) _ _ _ (c .before .before .before .before .before .before .before .before .before
     .before .r .given .1) _ _ (c .before .before .before .before .before .before .before .note2 .ensures) _ _ _ (c .before
     .before .before .s .given .1) _ (c .before .if1 .left) (c .apply .ensures))
-    )
+    in tie.close answers

@@ -6,7 +6,7 @@ use Rattle.evaluator.proofs.index_at.Statement.{statement}
 use Rattle.evaluator.proofs.index_at.Tie as tie
 
 pub index-at-spec : {M : Type 1} → statement M
-index-at-spec = tie.close (tie.spec
+index-at-spec = let answers = tie.spec
     (λ c κs. search needs) (λ c. search needs) (λ c. search needs)  -- note-requires, enum-known-r, enum-told
     (λ c. search needs)  -- same-length
     -- returns
@@ -31,4 +31,4 @@ index-at-spec = tie.close (tie.spec
     (λ c. index-out _ _ _ _ _ _ _ _ _ (c .before .before .before .before .before .before .before .before .note .ensures) _ _ _ (c
     .before .before .before .before .r .given .1) _ _ (c .before .before .array .ensures) (c .before .array-length .ensures .0)
     (c .if1 .left))
-    )
+    in tie.close answers

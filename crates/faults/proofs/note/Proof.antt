@@ -5,9 +5,9 @@ use Rattle.faults.proofs.note.Statement.{statement}
 use Rattle.faults.proofs.note.Tie as tie
 
 pub note-spec : {M : Type 1} → statement M
-note-spec = tie.close (tie.spec
+note-spec = let answers = tie.spec
     (λ c. search (note·rules, needs))  -- returns
     (λ c κs. search needs)  -- goes-before-requires
     (λ c. search (note·rules, needs))  -- returns-2
     (λ c. search (note·rules, needs))  -- returns-3
-    )
+    in tie.close answers

@@ -6,11 +6,11 @@ use Rattle.lent_images.proofs.compile_front.Statement.{statement}
 use Rattle.lent_images.proofs.compile_front.Tie as tie
 
 pub compile-front-spec : {M : Type 1} → statement M
-compile-front-spec = tie.close (tie.spec
+compile-front-spec = let answers = tie.spec
     -- slice-aggregate-compile
     (λ c. let args· = c .before .before .before .args in sym (length-take-le (args· .n) (args· .words .now) (c .before .before
-        .before .pre)))
+    .before .pre)))
     (λ c κs. search needs)  -- compile-requires
     (λ c. search needs)  -- same-length
     (λ c. search needs)  -- returns
-    )
+    in tie.close answers

@@ -128,8 +128,8 @@ type-statement-callees t = (
   type-result-reads.Learnt,
 )
 
-pub +type-block+type-for+type-if+type-statement-spec : {M : Type 1} → statement M
-+type-block+type-for+type-if+type-statement-spec = close μ-type-block μ-type-for μ-type-if μ-type-statement (λ t. type-block-lts.spec (type-block-callees t) (type-block-at t) type-block.Post type-block-Inv-loop type-block-μ-loop
+type-block-answers : {M : Type 1} (t : ℕ) → type-block-lts.Closed (type-block-callees t) (type-block-at t) type-block.Post M
+type-block-answers t = type-block-lts.spec (type-block-callees t) (type-block-at t) type-block.Post type-block-Inv-loop type-block-μ-loop
     (λ c. search needs) (λ c. search needs) (λ c κs. search needs)  -- mul-payload, shared-slice-read-payload, payload-requires
     (λ c. search needs)  -- add-t12
     -- loop-holds
@@ -169,7 +169,9 @@ pub +type-block+type-for+type-if+type-statement-spec : {M : Type 1} → statemen
     -- returns
     (λ c. let args· = c .before .before .before .before .before .before .before .args in block-done _ _ _ (args· .scope) _ _ _ _ _ _
     _ _ (c .before .loop .inv .3) (c .loop-test .left) ∙ place-apart _ _ _ (args· .scope) (args· .cursor) _ _ _)
-    ) (λ t. type-for-lts.spec (type-for-callees t) (type-for-at t) type-for.Post
+
+type-for-answers : {M : Type 1} (t : ℕ) → type-for-lts.Closed (type-for-callees t) (type-for-at t) type-for.Post M
+type-for-answers t = type-for-lts.spec (type-for-callees t) (type-for-at t) type-for.Post
     (λ c. search needs)  -- add-skip
     -- skip-requires
     (λ c κs. let pre· = c .before .before .before .before .pre .1 in skip-pair _ _ _ (read-bounds _ _ _ _ _ (pre· .0 .read) _ refl
@@ -195,7 +197,9 @@ pub +type-block+type-for+type-if+type-statement-spec : {M : Type 1} → statemen
     .before .before .before .before .before .before .before .before .before .before .pre .1 in type-for-on _ _ _ (args· .scope)
     (args· .cursor) _ _ _ _ (pre· .0 .read) _ _ _ _ (pre· .2) (c .before .before .before .before .before .skip .ensures) (c
     .before .before .before .before .rc-block .ensures) (c .before .before .type-block .ensures))
-    ) (λ t. type-if-lts.spec (type-if-callees t) (type-if-at t) type-if.Post
+
+type-if-answers : {M : Type 1} (t : ℕ) → type-if-lts.Closed (type-if-callees t) (type-if-at t) type-if.Post M
+type-if-answers t = type-if-lts.spec (type-if-callees t) (type-if-at t) type-if.Post
     (λ c. search needs) (λ c. search needs)  -- add-secret-expression, sub-secret-expression
     -- secret-expression-requires
     (λ c κs. let pre· = c .before .before .before .before .pre .1 in read-if _ _ _ _ _ (pre· .0 .read) _ refl (pre· .2))
@@ -244,7 +248,9 @@ pub +type-block+type-for+type-if+type-statement-spec : {M : Type 1} → statemen
     .secret-expression .ensures) _ _ _ _ (c .before .before .before .before .before .before .before .before .type-block
     .ensures) _ _ (c .before .before .before .before .before .before .before .before .before .before .before .before .before
     .before .type-arms .ensures) (c .before .before .before .before .type-block2 .ensures))
-    ) λ t. type-statement-lts.spec (type-statement-callees t) (type-statement-at t) type-statement.Post
+
+type-statement-answers : {M : Type 1} (t : ℕ) → type-statement-lts.Closed (type-statement-callees t) (type-statement-at t) type-statement.Post M
+type-statement-answers t = type-statement-lts.spec (type-statement-callees t) (type-statement-at t) type-statement.Post
     (λ c. search needs) (λ c. search needs) (λ c κs. search needs)  -- mul-w, shared-slice-read-w, op-requires
     -- type-if-requires
     (λ c κs. (
@@ -288,3 +294,6 @@ pub +type-block+type-for+type-if+type-statement-spec : {M : Type 1} → statemen
     .scope) (args· .cursor) _ _ _ _ (c .before .before .before .before .before .before .before .before .before .pre .1 .0 .read)
     _ (c .before .before .before .before .op .ensures) _ (c .before .rc-statement .ensures) (c .before .before .before .if1
     .left) (c .before .before .if2 .left) (c .if3 .left))
+
+pub +type-block+type-for+type-if+type-statement-spec : {M : Type 1} → statement M
++type-block+type-for+type-if+type-statement-spec = close μ-type-block μ-type-for μ-type-if μ-type-statement type-block-answers type-for-answers type-if-answers type-statement-answers

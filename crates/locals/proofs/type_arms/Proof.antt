@@ -5,8 +5,8 @@ use Rattle.locals.proofs.type_arms.Statement.{statement}
 use Rattle.locals.proofs.type_arms.Tie as tie
 
 pub type-arms-spec : {M : Type 1} → statement M
-type-arms-spec = tie.close (tie.spec
+type-arms-spec = let answers = tie.spec
     (λ c κs. search needs) (λ c. search needs)  -- put-two-requires, same-length
     (λ c. search arms-on)  -- returns
     (λ c. search arms-none)  -- returns-2
-    )
+    in tie.close answers

@@ -6,7 +6,7 @@ use Rattle.locals.proofs.type_result.Statement.{statement}
 use Rattle.locals.proofs.type_result.Tie as tie
 
 pub type-result-spec : {M : Type 1} → statement M
-type-result-spec = tie.close (tie.spec
+type-result-spec = let answers = tie.spec
     (λ c κs. search needs) (λ c κs. search needs)  -- result-type-requires, type-sort-requires
     (λ c κs. search needs) (λ c κs. search needs) (λ c. search needs)  -- secret-of-requires, put-requires, same-length
     -- returns
@@ -15,4 +15,4 @@ type-result-spec = tie.close (tie.spec
     .if1 .taken) (c .before .before .before .before .before .before .result-type .ensures) (c .before .before .before .before
     .before .type-sort .ensures .0) (c .before .before .before .secret-of .ensures) (c .before .before .put .ensures))
     (λ c. search result-none)  -- returns-2
-    )
+    in tie.close answers

@@ -5,7 +5,7 @@ use Rattle.masking.proofs.emit_store.Statement.{statement}
 use Rattle.masking.proofs.emit_store.Tie as tie
 
 pub emit-store-spec : {M : Type 1} → statement M
-emit-store-spec = tie.close (tie.spec
+emit-store-spec = let answers = tie.spec
     (λ c κs. search needs)  -- emit-store-index-requires
     -- emit-value-requires
     (λ c κs. (
@@ -15,4 +15,4 @@ emit-store-spec = tie.close (tie.spec
     ))
     (λ c κs. search needs) (λ c. search needs)  -- emit-old-cell-requires, same-length
     (λ c. search (store-on, needs))  -- returns
-    )
+    in tie.close answers

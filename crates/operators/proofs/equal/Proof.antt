@@ -5,4 +5,4 @@ use Rattle.operators.proofs.equal.Statement.{statement}
 use Rattle.operators.proofs.equal.Tie as tie
 
 pub equal-spec : {M : Type 1} → statement M
-equal-spec = tie.close (tie.spec (λ c. simp (eq-eqb _ _ (c .if1 .taken))) (λ c. simp (ne-eqb _ _ (c .if1 .left))))
+equal-spec = let answers = tie.spec (λ c. simp (eq-eqb _ _ (c .if1 .taken))) (λ c. simp (ne-eqb _ _ (c .if1 .left))) in tie.close answers

@@ -5,4 +5,4 @@ use Rattle.operators.proofs.less.Statement.{statement}
 use Rattle.operators.proofs.less.Tie as tie
 
 pub less-spec : {M : Type 1} → statement M
-less-spec = tie.close (tie.spec (λ c. simp (lt-ltb _ _ (c .if1 .taken))) (λ c. simp (le-ltb _ _ (c .if1 .left))))
+less-spec = let answers = tie.spec (λ c. simp (lt-ltb _ _ (c .if1 .taken))) (λ c. simp (le-ltb _ _ (c .if1 .left))) in tie.close answers

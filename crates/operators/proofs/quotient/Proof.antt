@@ -6,4 +6,4 @@ use Rattle.operators.proofs.quotient.Statement.{statement}
 use Rattle.operators.proofs.quotient.Tie as tie
 
 pub quotient-spec : {M : Type 1} → statement M
-quotient-spec = tie.close (tie.spec (λ c. rw (c .if1 .taken, div-zero)) (λ c. search needs) (λ c. search needs))
+quotient-spec = let answers = tie.spec (λ c. rw (c .if1 .taken, div-zero)) (λ c. search needs) (λ c. search needs) in tie.close answers

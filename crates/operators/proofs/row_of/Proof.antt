@@ -13,4 +13,4 @@ returns c =
     (ap (λ (r : Row). r .0) e, ap (λ (r : Row). r .1) e, ap (λ (r : Row). r .2) e)
 
 pub row-of-spec : {M : Type 1} → statement M
-row-of-spec = tie.close (tie.spec (λ c. search needs) (λ c. search needs) returns)
+row-of-spec = let answers = tie.spec (λ c. search needs) (λ c. search needs) returns in tie.close answers

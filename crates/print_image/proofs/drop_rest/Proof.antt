@@ -33,4 +33,4 @@ returns-2 : tie.Need-returns-2 Inv-loop μ-loop
 returns-2 c = tt
 
 pub drop-rest-spec : {M : Type 1} → statement M
-drop-rest-spec = tie.close (tie.spec Inv-loop μ-loop loop-holds drop-some-requires sub-turns loop-less loop-again returns returns-2)
+drop-rest-spec = let answers = tie.spec Inv-loop μ-loop loop-holds drop-some-requires sub-turns loop-less loop-again returns returns-2 in tie.close answers

@@ -17,11 +17,11 @@ abbrev μ-loop : tie.MeasureT-loop
 μ-loop words out₀ o from to j₀ p₀ out j p = to - j
 
 pub copy-words-spec : {M : Type 1} → statement M
-copy-words-spec = tie.close (tie.spec Inv-loop μ-loop
+copy-words-spec = let answers = tie.spec Inv-loop μ-loop
     (λ c. (search needs, search needs, search needs, refl))  -- loop-holds
     (λ c. search needs) (λ c. search needs) (λ c κs. search needs)  -- mul-put, shared-slice-read-put, put-requires
     (λ c. search needs) (λ c. search needs)  -- add-j, loop-less
     (λ c. (search needs, search needs, search needs, search copy-more))  -- loop-again
     (λ c. search needs)  -- same-length
     (λ c. search (copy-done, needs))  -- returns
-    )
+    in tie.close answers

@@ -6,7 +6,7 @@ use Rattle.procedures.proofs.describe.Statement.{statement}
 use Rattle.procedures.proofs.describe.Tie as tie
 
 pub describe-spec : {M : Type 1} → statement M
-describe-spec = tie.close (tie.spec
+describe-spec = let answers = tie.spec
     (λ c κs. search needs) (λ c κs. search needs)  -- is-guarded-requires, body-requires
     (λ c κs. search needs)  -- largest-level-requires
     -- rc-block-requires
@@ -21,4 +21,4 @@ describe-spec = tie.close (tie.spec
           .ensures) (c .before .before .rc-block .ensures),
       refl,
     ))
-    )
+    in tie.close answers

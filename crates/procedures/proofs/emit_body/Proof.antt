@@ -5,7 +5,7 @@ use Rattle.procedures.proofs.emit_body.Statement.{statement}
 use Rattle.procedures.proofs.emit_body.Tie as tie
 
 pub emit-body-spec : {M : Type 1} → statement M
-emit-body-spec = tie.close (tie.spec
+emit-body-spec = let answers = tie.spec
     (λ c κs. search needs)  -- put-requires
     (λ c κs. c .before .before .before .before .before .before .before .before .pre)  -- emit-inner-requires
     (λ c κs. search needs) (λ c κs. search needs) (λ c. search needs)  -- block-with-requires, patch-requires, same-length
@@ -16,4 +16,4 @@ emit-body-spec = tie.close (tie.spec
           .0) (c .before .before .before .block-with .ensures) (c .before .before .patch .ensures),
       emit-inner· .ensures .2,
     ))
-    )
+    in tie.close answers

@@ -6,7 +6,7 @@ use Rattle.procedures.proofs.emit_inner.Statement.{statement}
 use Rattle.procedures.proofs.emit_inner.Tie as tie
 
 pub emit-inner-spec : {M : Type 1} → statement M
-emit-inner-spec = tie.close (tie.spec
+emit-inner-spec = let answers = tie.spec
     -- narrow-requires
     (λ c κs. omega (arith, types-few _ _ _ (c .before .before .before .args .source) (c .before .before .before .pre)))
     (λ c κs. search needs)  -- guards-of-requires
@@ -132,4 +132,4 @@ emit-inner-spec = tie.close (tie.spec
         source-short _ _ _ (args· .source) (pre·),
       ),
     ))
-    )
+    in tie.close answers

@@ -5,7 +5,7 @@ use Rattle.procedures.proofs.emit_parts.Statement.{statement}
 use Rattle.procedures.proofs.emit_parts.Tie as tie
 
 pub emit-parts-spec : {M : Type 1} → statement M
-emit-parts-spec = tie.close (tie.spec
+emit-parts-spec = let answers = tie.spec
     (λ c κs. c .before .before .before .before .pre)  -- emit-types-requires
     (λ c κs. c .before .before .before .before .before .before .before .before .pre)  -- emit-body-requires
     (λ c. search needs)  -- same-length
@@ -15,4 +15,4 @@ emit-parts-spec = tie.close (tie.spec
           .emit-body .ensures .0),
       c .before .before .emit-body .ensures .1,
     ))
-    )
+    in tie.close answers

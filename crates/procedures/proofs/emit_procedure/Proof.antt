@@ -6,7 +6,7 @@ use Rattle.procedures.proofs.emit_procedure.Statement.{statement}
 use Rattle.procedures.proofs.emit_procedure.Tie as tie
 
 pub emit-procedure-spec : {M : Type 1} → statement M
-emit-procedure-spec = tie.close (tie.spec
+emit-procedure-spec = let answers = tie.spec
     (λ c κs. c .before .before .before .pre)  -- describe-requires
     (λ c κs. search needs)  -- put-two-requires
     (λ c κs. c .before .before .before .before .before .describe .ensures .0)  -- emit-parts-requires
@@ -37,4 +37,4 @@ emit-procedure-spec = tie.close (tie.spec
     .before .before .before .before .emit-parts .ensures .0) _ _ _ _ _ (describe· .ensures .1) (c .before .before .before
     .before .before .before .before .before .before .before .before .before .before .before .put-two .ensures) (c .before
     .before .before .procedure-with .ensures) (c .before .before .patch .ensures))
-    )
+    in tie.close answers

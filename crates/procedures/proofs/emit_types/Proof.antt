@@ -6,7 +6,7 @@ use Rattle.procedures.proofs.emit_types.Statement.{statement}
 use Rattle.procedures.proofs.emit_types.Tie as tie
 
 pub emit-types-spec : {M : Type 1} → statement M
-emit-types-spec = tie.close (tie.spec
+emit-types-spec = let answers = tie.spec
     (λ c κs. search needs)  -- wide-requires
     -- emit-kept-types-requires
     (λ c κs. omega (
@@ -32,4 +32,4 @@ emit-types-spec = tie.close (tie.spec
     .wide .ensures .0) (c .before .before .before .before .before .before .before .before .before .before .before
     .emit-kept-types .ensures) (c .before .before .before .before .before .before .before .emit-return-types .ensures) (c
     .before .before .type-block .ensures))
-    )
+    in tie.close answers

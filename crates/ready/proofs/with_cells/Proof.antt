@@ -5,8 +5,8 @@ use Rattle.ready.proofs.with_cells.Statement.{statement}
 use Rattle.ready.proofs.with_cells.Tie as tie
 
 pub with-cells-spec : {M : Type 1} → statement M
-with-cells-spec = tie.close (tie.spec
+with-cells-spec = let answers = tie.spec
     (λ c κs. search needs)  -- cell-count-requires
     (λ c. count-few _ _ _ (c .before .cell-count .ensures) (c .if1 .taken))  -- returns
     (λ c. count-enough _ _ _ (c .before .cell-count .ensures) (c .if1 .left))  -- returns-2
-    )
+    in tie.close answers

@@ -6,7 +6,7 @@ use Rattle.tables.proofs.place.Statement.{statement}
 use Rattle.tables.proofs.place.Tie as tie
 
 pub place-spec : {M : Type 1} → statement M
-place-spec = tie.close (tie.spec
+place-spec = let answers = tie.spec
     (λ c κs. search needs) (λ c. search needs) (λ c κs. search needs)  -- wide-requires, add-element, element-requires
     (λ c κs. search needs)  -- wide-requires-2
     -- returns
@@ -15,4 +15,4 @@ place-spec = tie.close (tie.spec
           _ (c .before .before .wide .ensures .0) (c .before .element .ensures),
       c .wide2 .ensures .1,
     ))
-    )
+    in tie.close answers

@@ -6,14 +6,14 @@ use Rattle.tinesage.proofs.tinesage_load.Statement.{statement}
 use Rattle.tinesage.proofs.tinesage_load.Tie as tie
 
 pub tinesage-load-spec : {M : Type 1} → statement M
-tinesage-load-spec = tie.close (tie.spec
-    (λ c κs. search needs) -- load-requires
+tinesage-load-spec = let answers = tie.spec
+    (λ c κs. search needs)  -- load-requires
     -- put-answer-requires
     (λ c κs. let args· = c .before .before .before .before .before .before .before .before .args in fits _ _ _ (c .before
-        .before .before .load .ensures) (load-place (args· .image .now) (args· .cells .now)))
-    (λ c. search needs) -- same-length
-    (λ c. search needs) -- same-length-2
+    .before .before .load .ensures) (load-place (args· .image .now) (args· .cells .now)))
+    (λ c. search needs)  -- same-length
+    (λ c. search needs)  -- same-length-2
     -- returns
     (λ c. both _ _ _ (c .before .before .before .before .before .before .load .ensures) _ _ (c .before .before .put-answer
-        .ensures))
-    )
+    .ensures))
+    in tie.close answers

@@ -5,7 +5,7 @@ use Rattle.tracing.proofs.note.Statement.{statement}
 use Rattle.tracing.proofs.note.Tie as tie
 
 pub note-spec : {M : Type 1} → statement M
-note-spec = tie.close (tie.spec
+note-spec = let answers = tie.spec
     (λ c. search (note·rules, needs))  -- returns
     (λ c. search (note·rules, needs))  -- returns-2
     (λ c. search needs) (λ c κs. search needs) (λ c κs. search needs)  -- cast-word-with, word-with-requires, put-word-requires
@@ -16,4 +16,4 @@ note-spec = tie.close (tie.spec
     .before .before .before .before .before .before .before .before .before .before .if1 .left) (c .before .before .before
     .before .before .before .before .word-with .ensures) (c .before .before .before .before .before .before .put-word .ensures)
     (c .before .before .put-word2 .ensures))
-    )
+    in tie.close answers

@@ -5,7 +5,7 @@ use Rattle.image_words.proofs.limits.largest_level.Statement.{statement
 use Rattle.image_words.proofs.limits.largest_level.Tie as tie
 
 pub largest-level-spec : {M : Type 1} → statement M
-largest-level-spec = tie.close (tie.spec
+largest-level-spec = let answers = tie.spec
     (λ c. simp (eq-eqb _ _ (c .if1 .taken)))  -- returns
     (λ c. simp (ne-eqb _ _ (c .if1 .left)))  -- returns-2
-    )
+    in tie.close answers

@@ -14,10 +14,10 @@ abbrev μ-loop : tie.MeasureT-loop
 μ-loop list₀ i₀ list i = length list₀ - i
 
 pub clear-spec : {M : Type 1} → statement M
-clear-spec = tie.close (tie.spec Inv-loop μ-loop
+clear-spec = let answers = tie.spec Inv-loop μ-loop
     (λ c. search needs) (λ c. search needs) (λ c. search needs) (λ c. search needs)  -- loop-holds, mul-list, slice-write-list, add-i
     (λ c. search needs)  -- loop-less
     (λ c. (search needs, search needs, search (clear-more, needs)))  -- loop-again
     (λ c. search needs)  -- same-length
     (λ c. clear-done _ _ (c .before .loop .inv .2) (search needs) (c .loop-test .left))  -- returns
-    )
+    in tie.close answers

@@ -5,7 +5,7 @@ use Rattle.image_words.proofs.lists.element.Statement.{statement}
 use Rattle.image_words.proofs.lists.element.Tie as tie
 
 pub element-spec : {M : Type 1} → statement M
-element-spec = tie.close (tie.spec
+element-spec = let answers = tie.spec
     (λ c. search needs) (λ c. search needs) (λ c. search needs)  -- mul-result, shared-slice-read-result, returns
     (λ c. search (past-end, needs))  -- returns-2
-    )
+    in tie.close answers

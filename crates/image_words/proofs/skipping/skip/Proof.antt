@@ -15,7 +15,7 @@ abbrev μ-loop : tie.MeasureT-loop
 μ-loop image at count a₀ left₀ a left = length image - a
 
 pub skip-spec : {M : Type 1} → statement M
-skip-spec = tie.close (tie.spec Inv-loop μ-loop
+skip-spec = let answers = tie.spec Inv-loop μ-loop
     (λ c. λ b r. r)  -- loop-holds
     -- mul-kind
     (λ c. let w = skip-within _ _ _ _ _ (c .before .before .before .pre) (c .before .loop .inv) (c .loop-test .taken) in search
@@ -51,4 +51,4 @@ skip-spec = tie.close (tie.spec Inv-loop μ-loop
     .before .loop .inv) (c .before .before .before .before .loop-test .taken) _ (c .before .before .kind .ensures) _ (c .before
     .operand-count .ensures .0) _ (c .word-count .ensures .0))
     (λ c. skip-done _ _ _ _ _ (c .before .before .before .pre) (c .before .loop .inv) (c .loop-test .left))  -- returns
-    )
+    in tie.close answers

@@ -9,6 +9,6 @@ unfolding arrayWord
 returns c = search needs
 
 pub array-word-spec : {M : Type 1} → statement M
-array-word-spec = tie.close (tie.spec
+array-word-spec = let answers = tie.spec
     (λ c. search needs) returns  -- add-result, returns
-    )
+    in tie.close answers

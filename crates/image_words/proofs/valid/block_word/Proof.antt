@@ -9,6 +9,6 @@ unfolding blockWord
 returns c = search needs
 
 pub block-word-spec : {M : Type 1} → statement M
-block-word-spec = tie.close (tie.spec
+block-word-spec = let answers = tie.spec
     returns  -- returns
-    )
+    in tie.close answers

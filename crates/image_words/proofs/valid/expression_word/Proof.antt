@@ -9,6 +9,6 @@ unfolding expressionWord
 returns c = search needs
 
 pub expression-word-spec : {M : Type 1} → statement M
-expression-word-spec = tie.close (tie.spec
+expression-word-spec = let answers = tie.spec
     returns  -- returns
-    )
+    in tie.close answers

@@ -9,6 +9,6 @@ unfolding headerWord
 returns c = search needs
 
 pub header-word-spec : {M : Type 1} → statement M
-header-word-spec = tie.close (tie.spec
+header-word-spec = let answers = tie.spec
     returns  -- returns
-    )
+    in tie.close answers

@@ -9,7 +9,7 @@ unfolding procedureWord
 returns c = rw (c .most-locals .ensures)
 
 pub procedure-word-spec : {M : Type 1} → statement M
-procedure-word-spec = tie.close (tie.spec
+procedure-word-spec = let answers = tie.spec
     (λ c κs. search needs) (λ c. search needs) (λ c. search needs)  -- most-locals-requires, add-result, add-result-2
     returns  -- returns
-    )
+    in tie.close answers

@@ -9,6 +9,6 @@ unfolding rawWord
 returns c = search needs
 
 pub raw-word-spec : {M : Type 1} → statement M
-raw-word-spec = tie.close (tie.spec
+raw-word-spec = let answers = tie.spec
     returns  -- returns
-    )
+    in tie.close answers

@@ -9,6 +9,6 @@ unfolding statementWord
 returns c = search needs
 
 pub statement-word-spec : {M : Type 1} → statement M
-statement-word-spec = tie.close (tie.spec
+statement-word-spec = let answers = tie.spec
     returns  -- returns
-    )
+    in tie.close answers

@@ -9,6 +9,6 @@ unfolding typeWord
 returns c = search needs
 
 pub type-word-spec : {M : Type 1} → statement M
-type-word-spec = tie.close (tie.spec
+type-word-spec = let answers = tie.spec
     returns  -- returns
-    )
+    in tie.close answers

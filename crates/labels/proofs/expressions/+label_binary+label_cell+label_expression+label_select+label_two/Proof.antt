@@ -133,8 +133,8 @@ abbrev label-two-callees : ℕ → label-two-lts.Claims
 label-two-callees t =
     (label-expression-below t, label-expression.Post)
 
-pub +label-binary+label-cell+label-expression+label-select+label-two-spec : {M : Type 1} → statement M
-+label-binary+label-cell+label-expression+label-select+label-two-spec = close μ-label-binary μ-label-cell μ-label-expression μ-label-select μ-label-two (λ t. label-binary-lts.spec (label-binary-callees t) (label-binary-at t) label-binary.Post
+label-binary-answers : {M : Type 1} (t : ℕ) → label-binary-lts.Closed (label-binary-callees t) (label-binary-at t) label-binary.Post M
+label-binary-answers t = label-binary-lts.spec (label-binary-callees t) (label-binary-at t) label-binary.Post
     (λ c. search needs) (λ c. search needs) (λ c. search needs)  -- sub-inner, mul-payload, shared-slice-read-payload
     (λ c κs. search needs)  -- payload-requires
     (λ c κs. search (operator-limit, needs))  -- public-operands-requires
@@ -155,7 +155,9 @@ pub +label-binary+label-cell+label-expression+label-select+label-two-spec : {M :
     _ _ _ _ _ _ _ (pre· .0 .read) _ (c .before .before .before .before .label-expression .ensures) _ (c .before .before .before
     .before .before .before .payload .ensures .0) _ _ _ (pre· .1) (c .before .before .before .label-expression2 .ensures) (c
     .before .before .before .before .before .public-operands .ensures) (c .before .before .note-operator .ensures))
-    ) (λ t. label-cell-lts.spec (label-cell-callees t) (label-cell-at t) label-cell.Post
+
+label-cell-answers : {M : Type 1} (t : ℕ) → label-cell-lts.Closed (label-cell-callees t) (label-cell-at t) label-cell.Post M
+label-cell-answers t = label-cell-lts.spec (label-cell-callees t) (label-cell-at t) label-cell.Post
     (λ c. search needs) (λ c. search needs) (λ c κs. search needs)  -- mul-payload, shared-slice-read-payload, payload-requires
     (λ c. search needs) (λ c. search needs)  -- sub-inner, add-label-expression
     (λ c κs. search (read-cell, needs))  -- label-expression-requires
@@ -165,7 +167,9 @@ pub +label-binary+label-cell+label-expression+label-select+label-two-spec : {M :
     .within)
     (λ c κs. search needs)  -- secret-array-requires
     (λ c. search (cell-labelled, needs))  -- returns
-    ) (λ t. label-expression-lts.spec (label-expression-callees t) (label-expression-at t) label-expression.Post
+
+label-expression-answers : {M : Type 1} (t : ℕ) → label-expression-lts.Closed (label-expression-callees t) (label-expression-at t) label-expression.Post M
+label-expression-answers t = label-expression-lts.spec (label-expression-callees t) (label-expression-at t) label-expression.Post
     (λ c. search needs) (λ c. search needs) (λ c κs. search needs)  -- mul-w, shared-slice-read-w, kind-requires
     (λ c. search needs)  -- add-t17
     (λ c. search (label-constant, needs))  -- returns
@@ -194,12 +198,19 @@ pub +label-binary+label-cell+label-expression+label-select+label-two-spec : {M :
       ),
     ))
     (λ c. search needs)  -- returns-8
-    ) (λ t. label-select-lts.spec (label-select-callees t) (label-select-at t) label-select.Post
+
+label-select-answers : {M : Type 1} (t : ℕ) → label-select-lts.Closed (label-select-callees t) (label-select-at t) label-select.Post M
+label-select-answers t = label-select-lts.spec (label-select-callees t) (label-select-at t) label-select.Post
     (λ c. search needs) (λ c. search needs)  -- sub-inner, add-label-expression
     (λ c κs. search (read-condition, needs))  -- label-expression-requires
     (λ c κs. search (values-fine, needs))  -- label-two-requires
     (λ c. search (select-labelled, needs))  -- returns
-    ) λ t. label-two-lts.spec (label-two-callees t) (label-two-at t) label-two.Post
+
+label-two-answers : {M : Type 1} (t : ℕ) → label-two-lts.Closed (label-two-callees t) (label-two-at t) label-two.Post M
+label-two-answers t = label-two-lts.spec (label-two-callees t) (label-two-at t) label-two.Post
     (λ c κs. search needs)  -- label-expression-requires
     (λ c κs. search (second-fine, needs))  -- label-expression-requires-2
     (λ c. search (two-labelled, needs))  -- returns
+
+pub +label-binary+label-cell+label-expression+label-select+label-two-spec : {M : Type 1} → statement M
++label-binary+label-cell+label-expression+label-select+label-two-spec = close μ-label-binary μ-label-cell μ-label-expression μ-label-select μ-label-two label-binary-answers label-cell-answers label-expression-answers label-select-answers label-two-answers

@@ -25,7 +25,7 @@ abbrev μ-loop : tie.MeasureT-loop
 μ-loop image table types bounds context f at level count k₀ a₀ found₀ k a found = count - k
 
 pub label-arguments-spec : {M : Type 1} → statement M
-label-arguments-spec = tie.close (tie.spec Inv-loop μ-loop
+label-arguments-spec = let answers = tie.spec Inv-loop μ-loop
     (λ c κs. search needs)  -- parameters-requires
     -- loop-holds
     (λ c. (
@@ -39,4 +39,4 @@ label-arguments-spec = tie.close (tie.spec Inv-loop μ-loop
     (λ c κs. search needs) (λ c. search needs) (λ c. search needs)  -- note-requires, add-k, loop-less
     (λ c. (search needs, search (arguments-again, needs), search (arguments-more, needs)))  -- loop-again
     (λ c. search (arguments-done, needs))  -- returns
-    )
+    in tie.close answers

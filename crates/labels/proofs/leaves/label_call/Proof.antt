@@ -6,7 +6,7 @@ use Rattle.labels.proofs.leaves.label_call.Statement.{statement}
 use Rattle.labels.proofs.leaves.label_call.Tie as tie
 
 pub label-call-spec : {M : Type 1} → statement M
-label-call-spec = tie.close (tie.spec
+label-call-spec = let answers = tie.spec
     (λ c. search needs) (λ c. search needs) (λ c κs. search needs)  -- mul-w, shared-slice-read-w, called-requires
     -- result-type-requires
     (λ c κs. let pre· = c .before .before .before .before .before .pre in call-listed _ _ _ _ _ (pre· .0 .read) (pre· .1) _ (c
@@ -33,4 +33,4 @@ label-call-spec = tie.close (tie.spec
     .before .before .before .before .before .before .before .type-secret .ensures) (c .before .before .before .before .before
     .secret-variable .ensures) (c .before .before .before .before .note .ensures) (c .before .before .before .is-guarded
     .ensures) (c .before .before .note2 .ensures) (c .before .label-arguments .ensures))
-    )
+    in tie.close answers

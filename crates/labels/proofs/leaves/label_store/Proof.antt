@@ -8,7 +8,7 @@ use Rattle.labels.proofs.leaves.label_store.Statement.{statement}
 use Rattle.labels.proofs.leaves.label_store.Tie as tie
 
 pub label-store-spec : {M : Type 1} → statement M
-label-store-spec = tie.close (tie.spec
+label-store-spec = let answers = tie.spec
     (λ c. search needs) (λ c. search needs) (λ c. search needs)  -- sub-inner, mul-target, shared-slice-read-target
     (λ c κs. search needs) (λ c. search needs)  -- target-requires, add-label-expression
     -- label-expression-requires
@@ -28,4 +28,4 @@ label-store-spec = tie.close (tie.spec
     .ensures .0) (c .before .before .before .before .before .label-expression .ensures) (c .before .before .before .before
     .note-index .ensures) (c .before .before .before .label-expression2 .ensures) (c .before .before .secret-array .ensures) (c
     .note .ensures))
-    )
+    in tie.close answers

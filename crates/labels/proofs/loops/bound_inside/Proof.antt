@@ -5,9 +5,9 @@ use Rattle.labels.proofs.loops.bound_inside.Statement.{statement}
 use Rattle.labels.proofs.loops.bound_inside.Tie as tie
 
 pub bound-inside-spec : {M : Type 1} → statement M
-bound-inside-spec = tie.close (tie.spec
+bound-inside-spec = let answers = tie.spec
     (λ c κs. search needs) (λ c κs. search needs)  -- constant-at-requires, constant-at-requires-2
     (λ c κs. search needs)  -- value-at-requires
     (λ c. search (inside-constant, needs))  -- returns
     (λ c. search (inside-none, needs))  -- returns-2
-    )
+    in tie.close answers

@@ -5,10 +5,10 @@ use Rattle.labels.proofs.operands.bounded_at.Statement.{statement}
 use Rattle.labels.proofs.operands.bounded_at.Tie as tie
 
 pub bounded-at-spec : {M : Type 1} → statement M
-bounded-at-spec = tie.close (tie.spec
+bounded-at-spec = let answers = tie.spec
     (λ c κs. search needs) (λ c κs. search needs)  -- constant-at-requires, value-at-requires
     (λ c. search (bounded-constant, needs))  -- returns
     (λ c. search needs) (λ c. search needs) (λ c κs. search needs)  -- mul-w, shared-slice-read-w, payload-requires
     (λ c κs. search needs) (λ c κs. search needs)  -- bound-of-requires, kind-requires
     (λ c. search (bounded-variable, needs))  -- returns-2
-    )
+    in tie.close answers

@@ -6,7 +6,7 @@ use Rattle.labels.proofs.procedures.label_procedure.Statement.{statemen
 use Rattle.labels.proofs.procedures.label_procedure.Tie as tie
 
 pub label-procedure-spec : {M : Type 1} → statement M
-label-procedure-spec = tie.close (tie.spec
+label-procedure-spec = let answers = tie.spec
     (λ c κs. search needs) (λ c κs. search needs) (λ c κs. search needs)  -- element-requires, form-requires, largest-level-requires
     (λ c κs. search needs) (λ c κs. search needs)  -- result-type-requires, is-guarded-requires
     (λ c κs. search needs) (λ c. search needs) (λ c. search needs)  -- place-requires, add-first, add-first-2
@@ -36,4 +36,4 @@ label-procedure-spec = tie.close (tie.spec
     .before .before .before .before .largest-level .ensures) _ _ _ _ (c .before .before .before .before .before .before .before
     .result-type .ensures) (c .before .before .before .before .before .before .is-guarded .ensures) (c .before .label-block
     .ensures .0))
-    )
+    in tie.close answers

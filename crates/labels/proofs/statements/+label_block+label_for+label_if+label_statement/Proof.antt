@@ -146,8 +146,8 @@ label-statement-callees t = (
   label-call-reads.Learnt,
 )
 
-pub +label-block+label-for+label-if+label-statement-spec : {M : Type 1} → statement M
-+label-block+label-for+label-if+label-statement-spec = close μ-label-block μ-label-for μ-label-if μ-label-statement (λ t. label-block-lts.spec (label-block-callees t) (label-block-at t) label-block.Post label-block-Inv-loop label-block-μ-loop
+label-block-answers : {M : Type 1} (t : ℕ) → label-block-lts.Closed (label-block-callees t) (label-block-at t) label-block.Post M
+label-block-answers t = label-block-lts.spec (label-block-callees t) (label-block-at t) label-block.Post label-block-Inv-loop label-block-μ-loop
     (λ c. search needs) (λ c. search needs) (λ c κs. search needs)  -- mul-payload, shared-slice-read-payload, payload-requires
     (λ c. search needs)  -- add-a
     -- loop-holds
@@ -174,7 +174,9 @@ pub +label-block+label-for+label-if+label-statement-spec : {M : Type 1} → stat
       search (block-more, needs),
     ))
     (λ c. search (block-done, needs))  -- returns
-    ) (λ t. label-for-lts.spec (label-for-callees t) (label-for-at t) label-for.Post
+
+label-for-answers : {M : Type 1} (t : ℕ) → label-for-lts.Closed (label-for-callees t) (label-for-at t) label-for.Post M
+label-for-answers t = label-for-lts.spec (label-for-callees t) (label-for-at t) label-for.Post
     (λ c. search needs) (λ c. search needs) (λ c κs. search needs)  -- mul-target, shared-slice-read-target, target-requires
     (λ c. search needs) (λ c. search needs)  -- sub-inner, add-label-bounds
     (λ c κs. search (read-bounds, needs))  -- label-bounds-requires
@@ -211,7 +213,9 @@ pub +label-block+label-for+label-if+label-statement-spec : {M : Type 1} → stat
       put-back _ _ _ _ _ _ _ (c .before .before .before .before .before .before
           .before .element .ensures) (put· .ensures) (label-block· .ensures .1) (c .before .put2 .ensures),
     ))
-    ) (λ t. label-if-lts.spec (label-if-callees t) (label-if-at t) label-if.Post
+
+label-if-answers : {M : Type 1} (t : ℕ) → label-if-lts.Closed (label-if-callees t) (label-if-at t) label-if.Post M
+label-if-answers t = label-if-lts.spec (label-if-callees t) (label-if-at t) label-if.Post
     (λ c. search needs) (λ c. search needs)  -- sub-inner, add-label-expression
     (λ c κs. search (read-if, needs))  -- label-expression-requires
     (λ c κs. search needs)  -- note-requires
@@ -253,7 +257,9 @@ pub +label-block+label-for+label-if+label-statement-spec : {M : Type 1} → stat
       (label-block2· .ensures .1) ∙
           (label-block· .ensures .1),
     ))
-    ) λ t. label-statement-lts.spec (label-statement-callees t) (label-statement-at t) label-statement.Post
+
+label-statement-answers : {M : Type 1} (t : ℕ) → label-statement-lts.Closed (label-statement-callees t) (label-statement-at t) label-statement.Post M
+label-statement-answers t = label-statement-lts.spec (label-statement-callees t) (label-statement-at t) label-statement.Post
     (λ c. search needs) (λ c. search needs) (λ c κs. search needs)  -- mul-op, shared-slice-read-op, op-requires
     (λ c κs. search needs) (λ c. search needs) (λ c κs. search needs)  -- label-assign-requires, returns, label-store-requires
     (λ c. search needs) (λ c κs. search needs) (λ c. search needs)  -- returns-2, label-if-requires, returns-3
@@ -270,3 +276,6 @@ pub +label-block+label-for+label-if+label-statement-spec : {M : Type 1} → stat
       c .before .before .before .before .before .before .before .before .before .before .pre .1 .1,
     ))
     (λ c. search needs)  -- returns-6
+
+pub +label-block+label-for+label-if+label-statement-spec : {M : Type 1} → statement M
++label-block+label-for+label-if+label-statement-spec = close μ-label-block μ-label-for μ-label-if μ-label-statement label-block-answers label-for-answers label-if-answers label-statement-answers

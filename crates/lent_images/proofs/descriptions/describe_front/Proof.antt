@@ -6,11 +6,11 @@ use Rattle.lent_images.proofs.descriptions.describe_front.Statement.{st
 use Rattle.lent_images.proofs.descriptions.describe_front.Tie as tie
 
 pub describe-front-spec : {M : Type 1} → statement M
-describe-front-spec = tie.close (tie.spec
+describe-front-spec = let answers = tie.spec
     -- slice-aggregate-describe
     (λ c. let args· = c .before .before .before .args in sym (length-take-le (args· .n) (args· .words .now) (c .before .before
-        .before .pre)))
-    (λ c κs. search needs) -- describe-requires
-    (λ c. search needs) -- same-length
-    (λ c. search needs) -- returns
-    )
+    .before .pre)))
+    (λ c κs. search needs)  -- describe-requires
+    (λ c. search needs)  -- same-length
+    (λ c. search needs)  -- returns
+    in tie.close answers

@@ -5,6 +5,6 @@ use Rattle.machine.proofs.Machine.clear.Statement.{statement}
 use Rattle.machine.proofs.Machine.clear.Tie as tie
 
 pub clear-spec : {M : Type 1} → statement M
-clear-spec = tie.close (tie.spec
+clear-spec = let answers = tie.spec
     (λ c. cleared _ (c .pre))  -- returns
-    )
+    in tie.close answers

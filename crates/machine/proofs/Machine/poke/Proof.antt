@@ -6,19 +6,22 @@ use Rattle.machine.proofs.Machine.poke.Statement.{statement}
 use Rattle.machine.proofs.Machine.poke.Tie as tie
 
 pub poke-spec : {M : Type 1} → statement M
-poke-spec = tie.close (tie.spec
+poke-spec = let answers = tie.spec
     (λ c κs. search needs) (λ c. search needs) (λ c. search needs)  -- find-cell-requires, enum-known-s, enum-told
     -- returns
     (λ c. no-poke _ (c .before .before .before .args .table .now) _ _ (c .before .before .before .pre) _ (c .before .before
-        .find-cell .ensures) _ (c .enum-told .given .1))
+    .find-cell .ensures) _ (c .enum-told .given .1))
     -- mul-next
-    (λ c. let args· = c .before .before .before .before .args in omega (arith, slot-small (args· .self) (args· .table .now) _ _ (c
-        .before .before .before .before .pre) _ (c .before .before .before .find-cell .ensures) _ (c .before .s .given .1)))
+    (λ c. let args· = c .before .before .before .before .args in omega (
+      arith,
+      slot-small (args· .self) (args· .table .now) _ _ (c
+          .before .before .before .before .pre) _ (c .before .before .before .find-cell .ensures) _ (c .before .s .given .1),
+    ))
     -- element-write-next
     (λ c. let h = slot-small (c .before .before .before .before .args .self) (c .before .before .before .before .args .table .now) _
-        _ (c .before .before .before .before .pre) _ (c .before .before .before .find-cell .ensures) _ (c .before .s .given .1) in
-        search needs)
+    _ (c .before .before .before .before .pre) _ (c .before .before .before .find-cell .ensures) _ (c .before .s .given .1) in
+    search needs)
     -- returns-2
     (λ c. poked _ (c .before .before .before .before .args .table .now) _ _ (c .before .before .before .before .pre) _ (c .before
-        .before .before .find-cell .ensures) _ (c .before .s .given .1) _)
-    )
+    .before .before .find-cell .ensures) _ (c .before .s .given .1) _)
+    in tie.close answers

@@ -40,8 +40,8 @@ read-expression-callees t = (
   read-expression.Post,
 )
 
-pub +read-expression-spec : {M : Type 1} → statement M
-+read-expression-spec = close μ-read-expression λ t. read-expression-lts.spec (read-expression-callees t) (read-expression-at t) read-expression.Post
+read-expression-answers : {M : Type 1} (t : ℕ) → read-expression-lts.Closed (read-expression-callees t) (read-expression-at t) read-expression.Post M
+read-expression-answers t = read-expression-lts.spec (read-expression-callees t) (read-expression-at t) read-expression.Post
     (λ c κs. search needs) (λ c. search needs) (λ c. search needs)  -- word-requires, enum-known-r, enum-told
     (λ c. search (expression·rules, needs))  -- returns
     (λ c κs. search needs)  -- expression-word-requires
@@ -104,3 +104,6 @@ pub +read-expression-spec : {M : Type 1} → statement M
     .before .before .before .before .before .before .before .if5 .left) _ (c .before .before .before .before .before .before
     .before .before .read-expression2 .ensures) _ _ (c .before .before .before .before .before .before .r2 .given .1) (c .before
     .before .before .before .if6 .left) _ (c .before .before .before .read-expression3 .ensures) _ _ (c .before .r3 .given .1))
+
+pub +read-expression-spec : {M : Type 1} → statement M
++read-expression-spec = close μ-read-expression read-expression-answers

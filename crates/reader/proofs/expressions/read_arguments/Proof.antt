@@ -16,11 +16,11 @@ abbrev μ-loop : tie.MeasureT-loop
 μ-loop image count at level k₀ a₀ k a = count - k
 
 pub read-arguments-spec : {M : Type 1} → statement M
-read-arguments-spec = tie.close (tie.spec Inv-loop μ-loop
+read-arguments-spec = let answers = tie.spec Inv-loop μ-loop
     (λ c. search (arguments·rules, needs))  -- loop-holds
     (λ c κs. search needs) (λ c. search needs) (λ c. search needs)  -- read-expression-requires, enum-known-r, enum-told
     (λ c. search (arguments·rules, needs))  -- returns
     (λ c. search needs) (λ c. search needs)  -- add-k, loop-less
     (λ c. search (arguments·rules, needs))  -- loop-again
     (λ c. search (arguments·rules, needs))  -- returns-2
-    )
+    in tie.close answers

@@ -7,7 +7,7 @@ use Rattle.reader.proofs.image.read_image.Statement.{statement}
 use Rattle.reader.proofs.image.read_image.Tie as tie
 
 pub read-image-spec : {M : Type 1} → statement M
-read-image-spec = tie.close (tie.spec
+read-image-spec = let answers = tie.spec
     (λ c κs. let pre· = c .before .before .before .before .pre in whole-asked _ _ _ (pre· .0) (pre· .1))  -- read-whole-requires
     (λ c. search needs) (λ c. search needs) (λ c κs. search needs)  -- enum-known-r, enum-known-r-2, clear-requires
     (λ c κs. search needs) (λ c. search needs)  -- clear-requires-2, same-length
@@ -25,6 +25,6 @@ read-image-spec = tie.close (tie.spec
       tables-refused _ _ _ _ _ _ _ _ (c .before .before
           .before .before .before .before .before .before .before .before .before .read-whole .ensures .0) (c .before .before .before
           .before .before .before .before .r2 .given .1) (c .before .before .before .before .clear .ensures) (search needs) (c .before
-          .before .clear2 .ensures),
+          .before .clear-ends .ensures),
     ))
-    )
+    in tie.close answers

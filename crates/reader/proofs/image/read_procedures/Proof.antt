@@ -18,7 +18,7 @@ abbrev μ-loop : tie.MeasureT-loop
 μ-loop image form count table₀ ends₀ at me₀ a₀ table ends me a = count - me
 
 pub read-procedures-spec : {M : Type 1} → statement M
-read-procedures-spec = tie.close (tie.spec Inv-loop μ-loop
+read-procedures-spec = let answers = tie.spec Inv-loop μ-loop
     -- loop-holds
     (λ c. (search needs, search needs, progress-begin _ _ _ _ _ _ (c .before .before .pre .3) (c .before .before .pre .4)))
     -- read-procedure-requires
@@ -108,4 +108,4 @@ read-procedures-spec = tie.close (tie.spec Inv-loop μ-loop
       procedures-kept _ _ _ _ _ _ _ _ _ (c
           .before .loop .inv .2) (c .loop-test .left),
     ))
-    )
+    in tie.close answers

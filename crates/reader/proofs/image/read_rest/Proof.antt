@@ -7,7 +7,7 @@ use Rattle.reader.proofs.image.read_rest.Statement.{statement}
 use Rattle.reader.proofs.image.read_rest.Tie as tie
 
 pub read-rest-spec : {M : Type 1} → statement M
-read-rest-spec = tie.close (tie.spec
+read-rest-spec = let answers = tie.spec
     (λ c κs. search needs)  -- arrays-requires
     -- read-arrays-requires
     (λ c κs. let pre· = c .before .before .before .before .pre in arrays-asked _ _ (pre· .0) (pre· .1) _ _ (pre· .2) (pre· .3) _ (c
@@ -78,4 +78,4 @@ read-rest-spec = tie.close (tie.spec
           (read-arrays· .ensures .1) _ _ (r· .given .1) _ (form· .ensures) _ (procedures· .ensures) _ (read-procedures· .ensures .0) _
           _ (read-procedures· .ensures .1) _ _ (c .before .before .s .given .1) (c .if1 .left),
     ))
-    )
+    in tie.close answers

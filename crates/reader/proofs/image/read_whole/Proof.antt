@@ -7,7 +7,7 @@ use Rattle.reader.proofs.image.read_whole.Statement.{statement}
 use Rattle.reader.proofs.image.read_whole.Tie as tie
 
 pub read-whole-spec : {M : Type 1} → statement M
-read-whole-spec = tie.close (tie.spec
+read-whole-spec = let answers = tie.spec
     -- returns
     (λ c. let args· = c .before .before .before .args in (
       image-empty (args· .whole) (args· .image .now) (args· .table .now) (args·
@@ -64,4 +64,4 @@ read-whole-spec = tie.close (tie.spec
           .now) (args· .ends .now) (if1· .left) _ (header-word· .ensures) (if2· .left) _ (form· .ensures) _ (largest-image· .ensures)
           (if3· .left) _ _ (c .before .before .read-rest .ensures .1),
     ))
-    )
+    in tie.close answers

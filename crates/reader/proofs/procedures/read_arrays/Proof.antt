@@ -16,7 +16,7 @@ abbrev μ-loop : tie.MeasureT-loop
 μ-loop image count at table₀ k₀ cells₀ a₀ table k cells a = count - k
 
 pub read-arrays-spec : {M : Type 1} → statement M
-read-arrays-spec = tie.close (tie.spec Inv-loop μ-loop
+read-arrays-spec = let answers = tie.spec Inv-loop μ-loop
     (λ c. (search needs, search needs, arrays-begin _ _ _ _ (c .before .pre .1)))  -- loop-holds
     (λ c κs. search needs) (λ c. search needs) (λ c. search needs)  -- word-requires, enum-known-r, enum-told
     (λ c. (search (arrays-end, needs), search (arrays-end-left, needs)))  -- returns
@@ -64,4 +64,4 @@ read-arrays-spec = tie.close (tie.spec Inv-loop μ-loop
           .left),
       arrays-kept _ _ _ _ _ _ _ (pre· .0) (c .before .loop .inv .2) (c .before .loop .inv .0) (c .loop-test .left),
     ))
-    )
+    in tie.close answers

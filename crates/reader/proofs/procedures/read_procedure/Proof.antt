@@ -5,7 +5,7 @@ use Rattle.reader.proofs.procedures.read_procedure.Statement.{statement
 use Rattle.reader.proofs.procedures.read_procedure.Tie as tie
 
 pub read-procedure-spec : {M : Type 1} → statement M
-read-procedure-spec = tie.close (tie.spec
+read-procedure-spec = let answers = tie.spec
     (λ c κs. search needs) (λ c. search needs) (λ c. search needs)  -- word-requires, enum-known-r, enum-told
     (λ c. search (procedure·rules, needs))  -- returns
     (λ c κs. search needs)  -- procedure-word-requires
@@ -16,4 +16,4 @@ read-procedure-spec = tie.close (tie.spec
     (λ c. search (procedure·rules, needs))  -- returns-4
     (λ c κs. search needs) (λ c. search needs)  -- read-body-requires, same-length
     (λ c. search (procedure·rules, needs))  -- returns-5
-    )
+    in tie.close answers

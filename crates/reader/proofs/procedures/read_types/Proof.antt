@@ -16,7 +16,7 @@ abbrev μ-loop : tie.MeasureT-loop
 μ-loop image count at k₀ a₀ k a = count - k
 
 pub read-types-spec : {M : Type 1} → statement M
-read-types-spec = tie.close (tie.spec Inv-loop μ-loop
+read-types-spec = let answers = tie.spec Inv-loop μ-loop
     (λ c. search (types·rules, needs))  -- loop-holds
     (λ c κs. search needs) (λ c. search needs) (λ c. search needs)  -- word-requires, enum-known-r, enum-told
     (λ c. search (types·rules, needs))  -- returns
@@ -25,4 +25,4 @@ read-types-spec = tie.close (tie.spec Inv-loop μ-loop
     (λ c. search needs) (λ c. search needs)  -- add-k, loop-less
     (λ c. search (types·rules, needs))  -- loop-again
     (λ c. search (types·rules, needs))  -- returns-3
-    )
+    in tie.close answers

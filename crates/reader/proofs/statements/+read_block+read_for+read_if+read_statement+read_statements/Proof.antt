@@ -135,8 +135,8 @@ abbrev read-statements-callees : ℕ → read-statements-lts.Claims
 read-statements-callees t =
     (read-statement-below t, read-statement.Post)
 
-pub +read-block+read-for+read-if+read-statement+read-statements-spec : {M : Type 1} → statement M
-+read-block+read-for+read-if+read-statement+read-statements-spec = close μ-read-block μ-read-for μ-read-if μ-read-statement μ-read-statements (λ t. read-block-lts.spec (read-block-callees t) (read-block-at t) read-block.Post
+read-block-answers : {M : Type 1} (t : ℕ) → read-block-lts.Closed (read-block-callees t) (read-block-at t) read-block.Post M
+read-block-answers t = read-block-lts.spec (read-block-callees t) (read-block-at t) read-block.Post
     (λ c κs. search needs) (λ c. search needs) (λ c. search needs)  -- word-requires, enum-known-r, enum-told
     (λ c. search (block·rules, needs))  -- returns
     (λ c κs. search needs)  -- block-word-requires
@@ -148,7 +148,9 @@ pub +read-block+read-for+read-if+read-statement+read-statements-spec : {M : Type
     (λ c. search (block·rules, needs))  -- returns-4
     (λ c κs. search needs) (λ c. search needs)  -- mark-requires, same-length-2
     (λ c. search (block·rules, needs))  -- returns-5
-    ) (λ t. read-for-lts.spec (read-for-callees t) (read-for-at t) read-for.Post
+
+read-for-answers : {M : Type 1} (t : ℕ) → read-for-lts.Closed (read-for-callees t) (read-for-at t) read-for.Post M
+read-for-answers t = read-for-lts.spec (read-for-callees t) (read-for-at t) read-for.Post
     (λ c κs. search needs) (λ c. search needs) (λ c. search needs)  -- read-expression-requires, enum-known-r1, enum-told
     (λ c. search (for·rules, needs))  -- returns
     (λ c κs. search needs) (λ c. search needs) (λ c. search needs)  -- read-expression-requires-2, enum-known-r2, enum-told-2
@@ -158,7 +160,9 @@ pub +read-block+read-for+read-if+read-statement+read-statements-spec : {M : Type
     (λ c. search (for·rules, needs))  -- returns-3
     (λ c. search needs)  -- same-length-2
     (λ c. search (for·rules, needs))  -- returns-4
-    ) (λ t. read-if-lts.spec (read-if-callees t) (read-if-at t) read-if.Post
+
+read-if-answers : {M : Type 1} (t : ℕ) → read-if-lts.Closed (read-if-callees t) (read-if-at t) read-if.Post M
+read-if-answers t = read-if-lts.spec (read-if-callees t) (read-if-at t) read-if.Post
     (λ c κs. search needs) (λ c. search needs) (λ c. search needs)  -- read-expression-requires, enum-known-r1, enum-told
     (λ c. search (if·rules, needs))  -- returns
     (λ c κs. search needs) (λ c. search needs) (λ c. search needs)  -- read-block-requires, enum-known-r2, enum-told-2
@@ -169,7 +173,9 @@ pub +read-block+read-for+read-if+read-statement+read-statements-spec : {M : Type
     (λ c. search (if·rules, needs))  -- returns-3
     (λ c. search needs)  -- same-length-3
     (λ c. search (if·rules, needs))  -- returns-4
-    ) (λ t. read-statement-lts.spec (read-statement-callees t) (read-statement-at t) read-statement.Post
+
+read-statement-answers : {M : Type 1} (t : ℕ) → read-statement-lts.Closed (read-statement-callees t) (read-statement-at t) read-statement.Post M
+read-statement-answers t = read-statement-lts.spec (read-statement-callees t) (read-statement-at t) read-statement.Post
     (λ c κs. search needs) (λ c. search needs) (λ c. search needs)  -- word-requires, enum-known-r, enum-told
     (λ c. search (statement·rules, needs))  -- returns
     (λ c κs. search needs)  -- statement-word-requires
@@ -182,7 +188,9 @@ pub +read-block+read-for+read-if+read-statement+read-statements-spec : {M : Type
     (λ c. search (statement·rules, needs))  -- returns-5
     (λ c. search needs) (λ c κs. search needs)  -- sub-read-simple, read-simple-requires
     (λ c. search (statement·rules, needs))  -- returns-6
-    ) λ t. read-statements-lts.spec (read-statements-callees t) (read-statements-at t) read-statements.Post read-statements-Inv-loop read-statements-μ-loop
+
+read-statements-answers : {M : Type 1} (t : ℕ) → read-statements-lts.Closed (read-statements-callees t) (read-statements-at t) read-statements.Post M
+read-statements-answers t = read-statements-lts.spec (read-statements-callees t) (read-statements-at t) read-statements.Post read-statements-Inv-loop read-statements-μ-loop
     (λ c. search (statements·rules, needs))  -- loop-holds
     (λ c κs. search needs) (λ c. search needs) (λ c. search needs)  -- read-statement-requires, enum-known-r, enum-told
     (λ c. search needs)  -- same-length
@@ -191,3 +199,6 @@ pub +read-block+read-for+read-if+read-statement+read-statements-spec : {M : Type
     (λ c. search (statements·rules, needs))  -- loop-again
     (λ c. search needs)  -- same-length-2
     (λ c. search (statements·rules, needs))  -- returns-2
+
+pub +read-block+read-for+read-if+read-statement+read-statements-spec : {M : Type 1} → statement M
++read-block+read-for+read-if+read-statement+read-statements-spec = close μ-read-block μ-read-for μ-read-if μ-read-statement μ-read-statements read-block-answers read-for-answers read-if-answers read-statement-answers read-statements-answers

@@ -14,7 +14,7 @@ unfolding wordAt
 returns-2 c = rw (lt-leb _ _ (c .before .if1 .left))
 
 pub word-spec : {M : Type 1} → statement M
-word-spec = tie.close (tie.spec
+word-spec = let answers = tie.spec
     returns (λ c. search needs) (λ c. search needs) (λ c. search needs)  -- returns, mul-t3, shared-slice-read-t7, add-t8
     returns-2  -- returns-2
-    )
+    in tie.close answers

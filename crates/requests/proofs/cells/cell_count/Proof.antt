@@ -18,19 +18,36 @@ abbrev μ-loop : tie.MeasureT-loop
 μ-loop table count total₀ k₀ total k = count - k
 
 pub cell-count-spec : {M : Type 1} → statement M
-cell-count-spec = tie.close (tie.spec Inv-loop μ-loop
+cell-count-spec = let answers = tie.spec Inv-loop μ-loop
     (λ c κs. search needs)  -- array-count-requires
     (λ c. (omega arith, omega arith, count-start (c .before .args .table .now)))  -- loop-holds
     (λ c κs. search needs) (λ c κs. search needs) (λ c κs. search needs)  -- wide-requires, array-requires, array-length-requires
     (λ c κs. search needs) (λ c. search needs) (λ c. search needs)  -- wide-requires-2, add-total, add-k
     (λ c. search needs)  -- loop-less
     -- loop-again
-    (λ c. let loop· = c .before .before .before .before .before .loop in (omega (arith, c .before .before .before .if1 .taken, c
-        .before .before .before .before .wide .ensures .0), omega (arith, loop· .inv .1, c .before .array-length .ensures .1, c
-        .wide2 .ensures .0), count-more (c .before .before .before .before .before .before .before .args .table .now) _ _ _ (loop·
-        .inv .2) _ _ _ (c .before .before .array .ensures) (c .before .array-length .ensures .0) (c .wide2 .ensures .0)))
+    (λ c. let loop· = c .before .before .before .before .before .loop in (
+      omega (
+        arith,
+        c .before .before .before .if1 .taken,
+        c
+            .before .before .before .before .wide .ensures .0,
+      ),
+      omega (
+        arith,
+        loop· .inv .1,
+        c .before .array-length .ensures .1,
+        c
+            .wide2 .ensures .0,
+      ),
+      count-more (c .before .before .before .before .before .before .before .args .table .now) _ _ _ (loop·
+          .inv .2) _ _ _ (c .before .before .array .ensures) (c .before .array-length .ensures .0) (c .wide2 .ensures .0),
+    ))
     -- returns
     (λ c. count-done (c .before .before .before .before .args .table .now) (c .before .before .loop .k) (c .before .before .loop
-        .total) _ (c .before .before .loop .inv .2) _ (c .before .before .before .array-count .ensures .0) (omega (arith, c .if1
-        .left, c .before .wide .ensures .0)))
-    )
+    .total) _ (c .before .before .loop .inv .2) _ (c .before .before .before .array-count .ensures .0) (omega (
+      arith,
+      c .if1
+          .left,
+      c .before .wide .ensures .0,
+    )))
+    in tie.close answers

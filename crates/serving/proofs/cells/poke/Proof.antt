@@ -8,38 +8,41 @@ use Rattle.serving.proofs.cells.poke.Statement.{statement}
 use Rattle.serving.proofs.cells.poke.Tie as tie
 
 pub poke-spec : {M : Type 1} → statement M
-poke-spec = tie.close (tie.spec
-    (λ c κs. search needs) -- ready-to-serve-requires
-    (λ c. search needs) -- enum-known-number
-    (λ c. search needs) -- enum-known-own
+poke-spec = let answers = tie.spec
+    (λ c κs. search needs)  -- ready-to-serve-requires
+    (λ c. search needs)  -- enum-known-number
+    (λ c. search needs)  -- enum-known-own
     -- lent-requires
     (λ c κs. let args· = c .before .before .before .before .before .before .before .before .args in let ready-to-serve· = c
-        .before .before .before .before .ready-to-serve in let o = (serve-own (args· .image .now) (args· .cells .now) _ _ _ (c
-        .before .before .own .given .1) (ready-to-serve· .ensures .0) (ready-to-serve· .ensures .1)) in (o .few, o .enough))
+    .before .before .before .before .ready-to-serve in let o = (serve-own (args· .image .now) (args· .cells .now) _ _ _ (c
+    .before .before .own .given .1) (ready-to-serve· .ensures .0) (ready-to-serve· .ensures .1)) in (o .few, o .enough))
     -- poke-requires
     (λ c κs. let args· = c .before .before .before .before .before .before .before .before .before .before .args in let
-        ready-to-serve· = c .before .before .before .before .before .before .ready-to-serve in let o = (serve-own (args· .image
-        .now) (args· .cells .now) _ _ _ (c .before .before .before .before .own .given .1) (ready-to-serve· .ensures .0)
-        (ready-to-serve· .ensures .1)) in rw (c .before .lent .ensures .1) (o .fits))
+    ready-to-serve· = c .before .before .before .before .before .before .ready-to-serve in let o = (serve-own (args· .image
+    .now) (args· .cells .now) _ _ _ (c .before .before .before .before .own .given .1) (ready-to-serve· .ensures .0)
+    (ready-to-serve· .ensures .1)) in rw (c .before .lent .ensures .1) (o .fits))
     -- give-back-requires
     (λ c κs. let args· = c .before .before .before .before .before .before .before .before .before .before .before .before .args
-        in let ready-to-serve· = c .before .before .before .before .before .before .before .before .ready-to-serve in let o =
-        (serve-own (args· .image .now) (args· .cells .now) _ _ _ (c .before .before .before .before .before .before .own .given
-        .1) (ready-to-serve· .ensures .0) (ready-to-serve· .ensures .1)) in back-asks _ _ _ _ (c .before .before .before .lent
-        .ensures .1) (c .before .poke .ensures .same) (o .few) (o .enough))
+    in let ready-to-serve· = c .before .before .before .before .before .before .before .before .ready-to-serve in let o =
+    (serve-own (args· .image .now) (args· .cells .now) _ _ _ (c .before .before .before .before .before .before .own .given
+    .1) (ready-to-serve· .ensures .0) (ready-to-serve· .ensures .1)) in back-asks _ _ _ _ (c .before .before .before .lent
+    .ensures .1) (c .before .poke .ensures .same) (o .few) (o .enough))
     -- returns
     (λ c. let args· = c .before .before .before .before .before .before .before .args in poke-not (args· .image .now) (args·
-        .cells .now) (λ i. omega (arith, (c .before .before .before .before .before .slice-known .given) i)) _ _ _ (c .before
-        .number .given .1) (c .before .before .before .ready-to-serve .ensures .0) (args· .a) (args· .i) (args· .v))
-    (λ c. search needs) -- same-length
+    .cells .now) (λ i. omega (arith, (c .before .before .before .before .before .slice-known .given) i)) _ _ _ (c .before
+    .number .given .1) (c .before .before .before .ready-to-serve .ensures .0) (args· .a) (args· .i) (args· .v))
+    (λ c. search needs)  -- same-length
     -- returns-2
     (λ c. let args· = c .before .before .before .before .before .before .before .before .before .before .before .before .before
-        .before .before .args in let give-back· = c .before .before .give-back in let lent· = c .before .before .before .before
-        .before .before .lent in let ready-to-serve· = c .before .before .before .before .before .before .before .before .before
-        .before .before .ready-to-serve in let o = (serve-own (args· .image .now) (args· .cells .now) _ _ _ (c .before .before
-        .before .before .before .before .before .before .before .own .given .1) (ready-to-serve· .ensures .0) (ready-to-serve·
-        .ensures .1)) in poke-done (args· .image .now) (args· .cells .now) _ (λ i. omega (arith, (c .before .before .before
-        .before .before .before .before .before .before .before .before .before .before .slice-known .given) i)) _ _ (lent·
-        .ensures .0) (lent· .ensures .1) _ _ _ (give-back· .ensures .0) (give-back· .ensures .1) o (args· .a) (args· .i) (args·
-        .v) (c .before .before .before .before .poke .ensures))
-    )
+    .before .before .args in let give-back· = c .before .before .give-back in let lent· = c .before .before .before .before
+    .before .before .lent in let ready-to-serve· = c .before .before .before .before .before .before .before .before .before
+    .before .before .ready-to-serve in let o = (serve-own (args· .image .now) (args· .cells .now) _ _ _ (c .before .before
+    .before .before .before .before .before .before .before .own .given .1) (ready-to-serve· .ensures .0) (ready-to-serve·
+    .ensures .1)) in poke-done (args· .image .now) (args· .cells .now) _ (λ i. omega (
+      arith,
+      (c .before .before .before
+          .before .before .before .before .before .before .before .before .before .before .slice-known .given) i,
+    )) _ _ (lent·
+    .ensures .0) (lent· .ensures .1) _ _ _ (give-back· .ensures .0) (give-back· .ensures .1) o (args· .a) (args· .i) (args·
+    .v) (c .before .before .before .before .poke .ensures))
+    in tie.close answers

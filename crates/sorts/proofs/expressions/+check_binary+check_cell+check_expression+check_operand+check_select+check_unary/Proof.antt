@@ -164,8 +164,8 @@ check-unary-callees t = (
   check-operand.Post,
 )
 
-pub +check-binary+check-cell+check-expression+check-operand+check-select+check-unary-spec : {M : Type 1} → statement M
-+check-binary+check-cell+check-expression+check-operand+check-select+check-unary-spec = close μ-check-binary μ-check-cell μ-check-expression μ-check-operand μ-check-select μ-check-unary (λ t. check-binary-lts.spec (check-binary-callees t) (check-binary-at t) check-binary.Post
+check-binary-answers : {M : Type 1} (t : ℕ) → check-binary-lts.Closed (check-binary-callees t) (check-binary-at t) check-binary.Post M
+check-binary-answers t = check-binary-lts.spec (check-binary-callees t) (check-binary-at t) check-binary.Post
     (λ c. search needs) (λ c. search needs) (λ c κs. search needs)  -- mul-payload, shared-slice-read-payload, payload-requires
     (λ c κs. search (operator-limit, needs))  -- operand-sort-requires
     (λ c κs. search (operator-limit, needs))  -- result-sort-requires
@@ -179,13 +179,17 @@ pub +check-binary+check-cell+check-expression+check-operand+check-select+check-u
     (λ c. search needs)  -- sub-check-operand-2
     (λ c κs. (search needs, search (second-fine, read-binary, needs)))  -- check-operand-requires-2
     (λ c. search (binary-returns, needs))  -- returns
-    ) (λ t. check-cell-lts.spec (check-cell-callees t) (check-cell-at t) check-cell.Post
+
+check-cell-answers : {M : Type 1} (t : ℕ) → check-cell-lts.Closed (check-cell-callees t) (check-cell-at t) check-cell.Post M
+check-cell-answers t = check-cell-lts.spec (check-cell-callees t) (check-cell-at t) check-cell.Post
     (λ c κs. search needs) (λ c. search needs) (λ c. search needs)  -- array-count-requires, mul-payload, shared-slice-read-payload
     (λ c κs. search needs) (λ c κs. search needs) (λ c. search needs)  -- payload-requires, note-missing-requires, add-check-operand
     (λ c. search needs)  -- sub-check-operand
     (λ c κs. search (read-cell, needs))  -- check-operand-requires
     (λ c. search (cell-returns, needs))  -- returns
-    ) (λ t. check-expression-lts.spec (check-expression-callees t) (check-expression-at t) check-expression.Post
+
+check-expression-answers : {M : Type 1} (t : ℕ) → check-expression-lts.Closed (check-expression-callees t) (check-expression-at t) check-expression.Post M
+check-expression-answers t = check-expression-lts.spec (check-expression-callees t) (check-expression-at t) check-expression.Post
     (λ c. search needs) (λ c. search needs) (λ c κs. search needs)  -- mul-w, shared-slice-read-w, kind-requires
     (λ c. search needs)  -- add-t17
     (λ c. search (constant-returns, needs))  -- returns
@@ -212,10 +216,14 @@ pub +check-binary+check-cell+check-expression+check-operand+check-select+check-u
       ),
     ))
     (λ c. search needs)  -- returns-8
-    ) (λ t. check-operand-lts.spec (check-operand-callees t) (check-operand-at t) check-operand.Post
+
+check-operand-answers : {M : Type 1} (t : ℕ) → check-operand-lts.Closed (check-operand-callees t) (check-operand-at t) check-operand.Post M
+check-operand-answers t = check-operand-lts.spec (check-operand-callees t) (check-operand-at t) check-operand.Post
     (λ c κs. search needs) (λ c κs. search needs)  -- check-expression-requires, note-wrong-sort-requires
     (λ c. search (operand-returns, needs))  -- returns
-    ) (λ t. check-select-lts.spec (check-select-callees t) (check-select-at t) check-select.Post
+
+check-select-answers : {M : Type 1} (t : ℕ) → check-select-lts.Closed (check-select-callees t) (check-select-at t) check-select.Post M
+check-select-answers t = check-select-lts.spec (check-select-callees t) (check-select-at t) check-select.Post
     (λ c. search needs) (λ c. search needs)  -- sub-inner, add-check-operand
     (λ c κs. search (read-condition, needs))  -- check-operand-requires
     -- check-expression-requires
@@ -226,9 +234,14 @@ pub +check-binary+check-cell+check-expression+check-operand+check-select+check-u
     ))
     (λ c κs. (search needs, search (value-fine, values-fine, needs)))  -- check-operand-requires-2
     (λ c. search (select-returns, needs))  -- returns
-    ) λ t. check-unary-lts.spec (check-unary-callees t) (check-unary-at t) check-unary.Post
+
+check-unary-answers : {M : Type 1} (t : ℕ) → check-unary-lts.Closed (check-unary-callees t) (check-unary-at t) check-unary.Post M
+check-unary-answers t = check-unary-lts.spec (check-unary-callees t) (check-unary-at t) check-unary.Post
     (λ c. search needs) (λ c. search needs) (λ c κs. search needs)  -- mul-payload, shared-slice-read-payload, payload-requires
     (λ c κs. search needs) (λ c κs. search needs)  -- unary-operand-requires, unary-result-requires
     (λ c. search needs) (λ c. search needs)  -- add-check-operand, sub-check-operand
     (λ c κs. search (read-unary, needs))  -- check-operand-requires
     (λ c. search (unary-returns, needs))  -- returns
+
+pub +check-binary+check-cell+check-expression+check-operand+check-select+check-unary-spec : {M : Type 1} → statement M
++check-binary+check-cell+check-expression+check-operand+check-select+check-unary-spec = close μ-check-binary μ-check-cell μ-check-expression μ-check-operand μ-check-select μ-check-unary check-binary-answers check-cell-answers check-expression-answers check-operand-answers check-select-answers check-unary-answers

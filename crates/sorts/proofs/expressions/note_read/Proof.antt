@@ -5,8 +5,8 @@ use Rattle.sorts.proofs.expressions.note_read.Statement.{statement}
 use Rattle.sorts.proofs.expressions.note_read.Tie as tie
 
 pub note-read-spec : {M : Type 1} → statement M
-note-read-spec = tie.close (tie.spec
+note-read-spec = let answers = tie.spec
     (λ c κs. search needs) (λ c κs. search needs) (λ c κs. search needs)  -- note-missing-requires, wide-requires, element-requires
     (λ c κs. search needs)  -- note-requires
     (λ c. search (read-notes, needs))  -- returns
-    )
+    in tie.close answers

@@ -25,7 +25,7 @@ abbrev μ-loop : tie.MeasureT-loop
 μ-loop image table types marks f at level count a₀ found₀ k₀ a found k = count - k
 
 pub check-arguments-spec : {M : Type 1} → statement M
-check-arguments-spec = tie.close (tie.spec Inv-loop μ-loop
+check-arguments-spec = let answers = tie.spec Inv-loop μ-loop
     (λ c κs. search needs)  -- parameters-requires
     -- loop-holds
     (λ c. (
@@ -39,4 +39,4 @@ check-arguments-spec = tie.close (tie.spec Inv-loop μ-loop
     (λ c. search needs) (λ c. search needs)  -- add-k, loop-less
     (λ c. (search needs, search (arguments-again, needs), search (arguments-more, needs)))  -- loop-again
     (λ c. search (arguments-done, needs))  -- returns
-    )
+    in tie.close answers

@@ -6,7 +6,7 @@ use Rattle.sorts.proofs.leaves.check_call.Statement.{statement}
 use Rattle.sorts.proofs.leaves.check_call.Tie as tie
 
 pub check-call-spec : {M : Type 1} → statement M
-check-call-spec = tie.close (tie.spec
+check-call-spec = let answers = tie.spec
     (λ c. search needs) (λ c. search needs) (λ c κs. search needs)  -- mul-w, shared-slice-read-w, called-requires
     (λ c κs. search needs) (λ c κs. search needs)  -- result-requires, note-write-requires
     -- result-type-requires
@@ -28,4 +28,4 @@ check-call-spec = tie.close (tie.spec
     .before .before .note-write .ensures) (c .before .before .before .before .result-type .ensures) (c .before .before .before
     .type-sort .ensures .0) (c .before .before .variable-sort .ensures) (c .before .note-wrong-sort .ensures) (c
     .check-arguments .ensures))
-    )
+    in tie.close answers

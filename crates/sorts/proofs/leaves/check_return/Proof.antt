@@ -6,8 +6,8 @@ use Rattle.sorts.proofs.leaves.check_return.Statement.{statement}
 use Rattle.sorts.proofs.leaves.check_return.Tie as tie
 
 pub check-return-spec : {M : Type 1} → statement M
-check-return-spec = tie.close (tie.spec
+check-return-spec = let answers = tie.spec
     (λ c κs. search needs) (λ c. search needs) (λ c. search needs)  -- type-sort-requires, add-check-operand, sub-check-operand
     (λ c κs. search (read-return, needs))  -- check-operand-requires
     (λ c. search (return-returns, needs))  -- returns
-    )
+    in tie.close answers

@@ -8,7 +8,7 @@ use Rattle.sorts.proofs.leaves.check_store.Statement.{statement}
 use Rattle.sorts.proofs.leaves.check_store.Tie as tie
 
 pub check-store-spec : {M : Type 1} → statement M
-check-store-spec = tie.close (tie.spec
+check-store-spec = let answers = tie.spec
     (λ c κs. search needs) (λ c. search needs) (λ c. search needs)  -- array-count-requires, mul-target, shared-slice-read-target
     (λ c κs. search needs) (λ c κs. search needs) (λ c. search needs)  -- target-requires, note-missing-requires, add-check-operand
     (λ c. search needs)  -- sub-check-operand
@@ -24,4 +24,4 @@ check-store-spec = tie.close (tie.spec
     _ _ _ (pre· .0 .read) _ _ _ _ _ (pre· .1) (c .before .before .before .before .before .before .array-count .ensures .0) (c
     .before .before .before .before .target .ensures .0) (c .before .before .before .note-missing .ensures) (c .before .before
     .check-operand .ensures) (c .before .check-operand2 .ensures))
-    )
+    in tie.close answers

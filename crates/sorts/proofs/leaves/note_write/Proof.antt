@@ -5,8 +5,8 @@ use Rattle.sorts.proofs.leaves.note_write.Statement.{statement}
 use Rattle.sorts.proofs.leaves.note_write.Tie as tie
 
 pub note-write-spec : {M : Type 1} → statement M
-note-write-spec = tie.close (tie.spec
+note-write-spec = let answers = tie.spec
     (λ c κs. search needs) (λ c κs. search needs) (λ c κs. search needs)  -- note-missing-requires, wide-requires, element-requires
     (λ c κs. search needs)  -- note-requires
     (λ c. search (write-notes, needs))  -- returns
-    )
+    in tie.close answers

@@ -85,8 +85,8 @@ mark-statement-callees t = (
   parameters-reads.Learnt,
 )
 
-pub +mark-block+mark-statement-spec : {M : Type 1} → statement M
-+mark-block+mark-statement-spec = close μ-mark-block μ-mark-statement (λ t. mark-block-lts.spec (mark-block-callees t) (mark-block-at t) mark-block.Post mark-block-Inv-loop mark-block-μ-loop
+mark-block-answers : {M : Type 1} (t : ℕ) → mark-block-lts.Closed (mark-block-callees t) (mark-block-at t) mark-block.Post M
+mark-block-answers t = mark-block-lts.spec (mark-block-callees t) (mark-block-at t) mark-block.Post mark-block-Inv-loop mark-block-μ-loop
     (λ c. search needs) (λ c. search needs) (λ c κs. search needs)  -- mul-payload, shared-slice-read-payload, payload-requires
     (λ c. search needs)  -- add-a
     -- loop-holds
@@ -102,7 +102,9 @@ pub +mark-block+mark-statement-spec : {M : Type 1} → statement M
     (λ c. search needs) (λ c. search needs)  -- add-k, loop-less
     (λ c. (search needs, search (marks-again, needs), search (marks-more, needs)))  -- loop-again
     (λ c. search (marks-done, needs))  -- returns
-    ) λ t. mark-statement-lts.spec (mark-statement-callees t) (mark-statement-at t) mark-statement.Post
+
+mark-statement-answers : {M : Type 1} (t : ℕ) → mark-statement-lts.Closed (mark-statement-callees t) (mark-statement-at t) mark-statement.Post M
+mark-statement-answers t = mark-statement-lts.spec (mark-statement-callees t) (mark-statement-at t) mark-statement.Post
     (λ c. search needs) (λ c. search needs) (λ c κs. search needs)  -- mul-w, shared-slice-read-w, op-requires
     (λ c. search needs)  -- add-skip
     -- skip-requires
@@ -146,3 +148,6 @@ pub +mark-block+mark-statement-spec : {M : Type 1} → statement M
     (c .before .before .before .before .if4 .left) (c .before .before .before .if5 .left)) _ _ _ (c .before .before .called
     .ensures .0) (c .before .parameters .ensures) (c .wide2 .ensures .0))
     (λ c. search (call-marks, is-call, needs))  -- returns-6
+
+pub +mark-block+mark-statement-spec : {M : Type 1} → statement M
++mark-block+mark-statement-spec = close μ-mark-block μ-mark-statement mark-block-answers mark-statement-answers

@@ -6,7 +6,7 @@ use Rattle.sorts.proofs.procedures.check_procedure.Statement.{statement
 use Rattle.sorts.proofs.procedures.check_procedure.Tie as tie
 
 pub check-procedure-spec : {M : Type 1} → statement M
-check-procedure-spec = tie.close (tie.spec
+check-procedure-spec = let answers = tie.spec
     (λ c κs. search needs) (λ c κs. search needs) (λ c κs. search needs)  -- element-requires, form-requires, largest-level-requires
     (λ c κs. search needs) (λ c κs. search needs)  -- result-type-requires, parameters-requires
     (λ c κs. search needs) (λ c. search needs) (λ c. search needs)  -- place-requires, add-first, add-first-2
@@ -42,4 +42,4 @@ check-procedure-spec = tie.close (tie.spec
     .largest-level .ensures) _ _ _ _ _ _ _ (c .before .before .before .before .before .before .before .before .parameters
     .ensures) (c .before .before .before .before .before .before .before .before .before .result-type .ensures) (c .before
     .before .before .before .mark-block .ensures) (c .before .check-block .ensures .0))
-    )
+    in tie.close answers

@@ -138,8 +138,8 @@ check-statement-callees t = (
   check-call-reads.Learnt,
 )
 
-pub +check-block+check-for+check-if+check-statement-spec : {M : Type 1} → statement M
-+check-block+check-for+check-if+check-statement-spec = close μ-check-block μ-check-for μ-check-if μ-check-statement (λ t. check-block-lts.spec (check-block-callees t) (check-block-at t) check-block.Post check-block-Inv-loop check-block-μ-loop
+check-block-answers : {M : Type 1} (t : ℕ) → check-block-lts.Closed (check-block-callees t) (check-block-at t) check-block.Post M
+check-block-answers t = check-block-lts.spec (check-block-callees t) (check-block-at t) check-block.Post check-block-Inv-loop check-block-μ-loop
     (λ c. search needs) (λ c. search needs) (λ c κs. search needs)  -- mul-payload, shared-slice-read-payload, payload-requires
     (λ c. search needs)  -- add-a
     -- loop-holds
@@ -165,7 +165,9 @@ pub +check-block+check-for+check-if+check-statement-spec : {M : Type 1} → stat
       search (block-more, needs),
     ))
     (λ c. search (block-done, needs))  -- returns
-    ) (λ t. check-for-lts.spec (check-for-callees t) (check-for-at t) check-for.Post
+
+check-for-answers : {M : Type 1} (t : ℕ) → check-for-lts.Closed (check-for-callees t) (check-for-at t) check-for.Post M
+check-for-answers t = check-for-lts.spec (check-for-callees t) (check-for-at t) check-for.Post
     (λ c. search needs) (λ c. search needs) (λ c κs. search needs)  -- mul-target, shared-slice-read-target, target-requires
     (λ c κs. search needs) (λ c. search needs) (λ c. search needs)  -- note-loop-requires, add-check-operand, sub-check-operand
     -- check-operand-requires
@@ -212,7 +214,9 @@ pub +check-block+check-for+check-if+check-statement-spec : {M : Type 1} → stat
       put-back _ _ _ _ _ _ _ (c .before .before .before .before .before .before .element .ensures)
           (put· .ensures) (c .before .before .check-block .ensures .1) (c .put2 .ensures),
     ))
-    ) (λ t. check-if-lts.spec (check-if-callees t) (check-if-at t) check-if.Post
+
+check-if-answers : {M : Type 1} (t : ℕ) → check-if-lts.Closed (check-if-callees t) (check-if-at t) check-if.Post M
+check-if-answers t = check-if-lts.spec (check-if-callees t) (check-if-at t) check-if.Post
     (λ c. search needs) (λ c. search needs)  -- add-check-operand, sub-check-operand
     (λ c κs. search (read-if, needs))  -- check-operand-requires
     (λ c. search needs)  -- sub-check-block
@@ -246,7 +250,9 @@ pub +check-block+check-for+check-if+check-statement-spec : {M : Type 1} → stat
       (c .check-block2 .ensures .1) ∙
           (c .before .before .check-block .ensures .1),
     ))
-    ) λ t. check-statement-lts.spec (check-statement-callees t) (check-statement-at t) check-statement.Post
+
+check-statement-answers : {M : Type 1} (t : ℕ) → check-statement-lts.Closed (check-statement-callees t) (check-statement-at t) check-statement.Post M
+check-statement-answers t = check-statement-lts.spec (check-statement-callees t) (check-statement-at t) check-statement.Post
     (λ c. search needs) (λ c. search needs) (λ c κs. search needs)  -- mul-op, shared-slice-read-op, op-requires
     (λ c κs. search needs) (λ c. search needs) (λ c κs. search needs)  -- check-assign-requires, returns, check-store-requires
     (λ c. search needs) (λ c κs. search needs) (λ c. search needs)  -- returns-2, check-if-requires, returns-3
@@ -263,3 +269,6 @@ pub +check-block+check-for+check-if+check-statement-spec : {M : Type 1} → stat
       c .before .before .before .before .before .before .before .before .before .before .pre .1 .1,
     ))
     (λ c. search needs)  -- returns-6
+
+pub +check-block+check-for+check-if+check-statement-spec : {M : Type 1} → statement M
++check-block+check-for+check-if+check-statement-spec = close μ-check-block μ-check-for μ-check-if μ-check-statement check-block-answers check-for-answers check-if-answers check-statement-answers

@@ -7,9 +7,9 @@ use Rattle.tables.proofs.signatures.procedure_word.Statement.{statement
 use Rattle.tables.proofs.signatures.procedure_word.Tie as tie
 
 pub procedure-word-spec : {M : Type 1} → statement M
-procedure-word-spec = tie.close (tie.spec
+procedure-word-spec = let answers = tie.spec
     (λ c κs. search needs) (λ c κs. search needs)  -- place-requires, element-requires
     -- returns
     (λ c. c .element .ensures ∙ ap (λ (n : ℕ). getD (c .before .before .before .args .image .now) n 0) (c .before .place .ensures
     .0))
-    )
+    in tie.close answers

@@ -5,7 +5,7 @@ use Rattle.tables.proofs.signatures.variable_sort.Statement.{statement}
 use Rattle.tables.proofs.signatures.variable_sort.Tie as tie
 
 pub variable-sort-spec : {M : Type 1} → statement M
-variable-sort-spec = tie.close (tie.spec
+variable-sort-spec = let answers = tie.spec
     (λ c κs. search needs) (λ c κs. search needs)  -- procedure-word-requires, variables-requires
     (λ c κs. search needs) (λ c. search needs) (λ c. search needs)  -- place-requires, add-element, add-element-2
     (λ c κs. search needs) (λ c. search needs) (λ c κs. search needs)  -- wide-requires, add-element-3, element-requires
@@ -18,4 +18,4 @@ variable-sort-spec = tie.close (tie.spec
     -- returns-2
     (λ c. sort-none _ _ _ (c .before .before .before .before .pre) _ (c .before .before .procedure-word .ensures) _ _ (c .before
     .variables .ensures .0) (c .if1 .left))
-    )
+    in tie.close answers

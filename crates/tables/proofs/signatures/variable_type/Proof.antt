@@ -5,7 +5,7 @@ use Rattle.tables.proofs.signatures.variable_type.Statement.{statement}
 use Rattle.tables.proofs.signatures.variable_type.Tie as tie
 
 pub variable-type-spec : {M : Type 1} → statement M
-variable-type-spec = tie.close (tie.spec
+variable-type-spec = let answers = tie.spec
     (λ c κs. search needs) (λ c κs. search needs)  -- procedure-word-requires, variables-requires
     (λ c κs. search needs) (λ c. search needs) (λ c. search needs)  -- place-requires, add-element, add-element-2
     (λ c κs. search needs) (λ c. search needs) (λ c κs. search needs)  -- wide-requires, add-element-3, element-requires
@@ -16,4 +16,4 @@ variable-type-spec = tie.close (tie.spec
     -- returns-2
     (λ c. type-none _ _ _ (c .before .before .before .before .pre) _ (c .before .before .procedure-word .ensures) _ _ (c .before
     .variables .ensures .0) (c .if1 .left))
-    )
+    in tie.close answers

@@ -5,6 +5,6 @@ use Rattle.words.proofs.images.admissible.Statement.{statement}
 use Rattle.words.proofs.images.admissible.Tie as tie
 
 pub admissible-spec : {M : Type 1} → statement M
-admissible-spec = tie.close (tie.spec
+admissible-spec = let answers = tie.spec
     (λ c. admitted (c .args .image .now))  -- returns
-    )
+    in tie.close answers
