@@ -7,9 +7,7 @@ use Rattle.operators.proofs.apply.Statement.{statement}
 use Rattle.operators.proofs.apply.Tie as tie
 
 pub apply-spec : {M : Type 1} → statement M
-apply-spec =
-    tie.close
-    (tie.spec
+apply-spec = let answers = tie.spec
     (λ c κs. search needs)  -- what wrapping_add_u32 asks
     (λ c κs. search needs)  -- wrapping_sub_u32
     (λ c κs. search needs)  -- multiply
@@ -38,4 +36,4 @@ apply-spec =
     (λ c. search binary-at)  -- returns: 13 and
     (λ c. search binary-at)  -- returns: 14 or
     (λ c. binary-past _ _ _ (c .match .rest))  -- past the table
-    )
+    in tie.close answers

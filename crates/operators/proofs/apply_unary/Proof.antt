@@ -6,9 +6,7 @@ use Rattle.operators.proofs.apply_unary.Statement.{statement}
 use Rattle.operators.proofs.apply_unary.Tie as tie
 
 pub apply-unary-spec : {M : Type 1} → statement M
-apply-unary-spec =
-    tie.close
-    (tie.spec
+apply-unary-spec = let answers = tie.spec
     (λ c κs. search needs)
     (λ c. search needs)
     (λ c κs. search needs)
@@ -16,4 +14,4 @@ apply-unary-spec =
     (λ c. search unary-at)
     (λ c. search unary-at)
     (λ c. unary-past _ _ (c .match .rest))
-    )
+    in tie.close answers

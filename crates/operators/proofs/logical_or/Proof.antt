@@ -6,10 +6,8 @@ use Rattle.operators.proofs.logical_or.Statement.{statement}
 use Rattle.operators.proofs.logical_or.Tie as tie
 
 pub logical-or-spec : {M : Type 1} → statement M
-logical-or-spec =
-    tie.close
-    (tie.spec
+logical-or-spec = let answers = tie.spec
     (λ c κs. search needs)
     (λ c. simp (eq-eqb _ _ (c .before .if1 .taken)) (c .truth .ensures))
     (λ c. simp (ne-eqb _ _ (c .if1 .left)))
-    )
+    in tie.close answers

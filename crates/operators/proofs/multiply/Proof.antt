@@ -6,10 +6,8 @@ use Rattle.operators.proofs.multiply.Statement.{statement}
 use Rattle.operators.proofs.multiply.Tie as tie
 
 pub multiply-spec : {M : Type 1} → statement M
-multiply-spec =
-    tie.close
-    (tie.spec
+multiply-spec = let answers = tie.spec
     (λ c. record { fits = product-fits 32 (search needs) (search needs) })
     (λ c. search needs)
     (λ c. search needs)
-    )
+    in tie.close answers

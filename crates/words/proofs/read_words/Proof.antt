@@ -35,9 +35,7 @@ returns c =
     (rw e at (c .before .loop .inv .2), c .before .loop .inv .3)
 
 pub read-words-spec : {M : Type 1} → statement M
-read-words-spec =
-    tie.close
-    (tie.spec
+read-words-spec = let answers = tie.spec
     Inv-loop
     μ-loop
     (λ c. (search needs, refl, refl, refl))  -- loop-holds
@@ -48,4 +46,5 @@ read-words-spec =
     (λ c. search needs)  -- loop-less
     loop-again
     (λ c. search needs)  -- same-length
-    returns)
+    returns
+    in tie.close answers

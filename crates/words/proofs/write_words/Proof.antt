@@ -39,9 +39,7 @@ returns c =
     rw e at (c .before .loop .inv .2)
 
 pub write-words-spec : {M : Type 1} → statement M
-write-words-spec =
-    tie.close
-    (tie.spec
+write-words-spec = let answers = tie.spec
     Inv-loop
     μ-loop
     loop-holds
@@ -53,4 +51,5 @@ write-words-spec =
     (λ c. search needs)  -- loop-less
     loop-again
     (λ c. search needs)  -- same-length
-    returns)
+    returns
+    in tie.close answers
