@@ -14,7 +14,10 @@ struct limits {
     uint32_t modes, parameters, locals, level;
 };
 
-static const struct limits forms[2] = {{"source", 2, 8, 64, 32}, {"compiled", 1, 9, 246, 40}};
+static const struct limits forms[2] = {
+    {"source", 2, TINESAGE_MOST_ARGUMENTS - 1, 64, TINESAGE_MOST_SOURCE_LEVEL},
+    {"compiled", 1, TINESAGE_MOST_ARGUMENTS, 246, TINESAGE_MOST_LEVEL},
+};
 
 struct array {
     uint32_t label, cells;

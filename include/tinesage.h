@@ -40,9 +40,9 @@ extern "C" {
 
 /* The version of this interface. A new major number may break a host, a new minor number adds. */
 #define TINESAGE_VERSION_MAJOR 1
-#define TINESAGE_VERSION_MINOR 1
+#define TINESAGE_VERSION_MINOR 2
 #define TINESAGE_VERSION_PATCH 0
-#define TINESAGE_VERSION "1.1.0"
+#define TINESAGE_VERSION "1.2.0"
 
 /* ---- sizes ---- */
 
@@ -53,6 +53,10 @@ extern "C" {
 /* the most words that an image can have: in compiled form, and in source form */
 #define TINESAGE_MOST_WORDS 16384
 #define TINESAGE_MOST_SOURCE_WORDS 4096
+
+/* the deepest level that a word can have: in compiled form, and in source form */
+#define TINESAGE_MOST_LEVEL 22
+#define TINESAGE_MOST_SOURCE_LEVEL 19
 
 /* the most cells of an image together, and the most arguments of a call (8 in source form) */
 #define TINESAGE_MOST_CELLS 1024

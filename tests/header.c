@@ -116,8 +116,27 @@ static uint32_t with_parameters(uint32_t form, uint32_t parameters)
     return checked();
 }
 
+/* complements inside each other: the body is at level 1, the return at 2, the constant at the given level */
+static uint32_t with_level(uint32_t form, uint32_t level)
+{
+    count = 0;
+    push(0x10000001 | form << 16);
+    push(0x30000000);
+    push(0x40000000);
+    push(0x50000001);
+    push(0x60040000);
+    for (uint32_t i = 3; i < level; i++)
+        push(0xC0000001);
+    push(0x70000000);
+    return checked();
+}
+
 static void limit_cases(void)
 {
+    expect("the deepest level in compiled form is accepted", with_level(1, TINESAGE_MOST_LEVEL) == 0);
+    expect("one more is refused", with_level(1, TINESAGE_MOST_LEVEL + 1) == TINESAGE_REFUSAL_TOO_DEEP);
+    expect("the deepest level in source form is accepted", with_level(0, TINESAGE_MOST_SOURCE_LEVEL) == 0);
+    expect("one more is refused", with_level(0, TINESAGE_MOST_SOURCE_LEVEL + 1) == TINESAGE_REFUSAL_TOO_DEEP);
     expect("the most words in compiled form are accepted", with_words(1, TINESAGE_MOST_WORDS) == 0);
     expect("one more is refused", with_words(1, TINESAGE_MOST_WORDS + 1) == TINESAGE_REFUSAL_LENGTH);
     expect("the most words in source form are accepted", with_words(0, TINESAGE_MOST_SOURCE_WORDS) == 0);

@@ -16,7 +16,8 @@
 
 /* ---- images ---- */
 
-#define DEEPEST 19 /* ifs and fors around a statement */
+/* the most ifs and fors around a statement: each has two levels, and so have the body and the statement together */
+#define DEEPEST (TINESAGE_MOST_LEVEL / 2 - 1)
 #define PROCEDURES 32
 
 enum nest { IF_TRUE, IF_SECRET_ELSE, IF_SECRET_THEN, FOR, FOR_AND_IF, FOR_THEN_SECRET_IF, NESTS };
@@ -47,8 +48,15 @@ struct image {
     size_t count;
 };
 
-static uint32_t most_level(const struct shape *s) { return s->form == 1 ? 40 : 32; }
-static uint32_t most_words(const struct shape *s) { return s->form == 1 ? 16384 : 4096; }
+static uint32_t most_level(const struct shape *s)
+{
+    return s->form == 1 ? TINESAGE_MOST_LEVEL : TINESAGE_MOST_SOURCE_LEVEL;
+}
+
+static uint32_t most_words(const struct shape *s)
+{
+    return s->form == 1 ? TINESAGE_MOST_WORDS : TINESAGE_MOST_SOURCE_WORDS;
+}
 static bool calls(const struct shape *s) { return s->leaf == CALL || s->leaf == CALL_WITH_ARGUMENTS; }
 
 static bool secret(const struct shape *s)
@@ -257,15 +265,15 @@ static const char *const function_names[] = {"tinesage_check", "tinesage_compile
                                              "tinesage_peek",  "tinesage_call"};
 
 /* what docs/STACK.md states, in bytes */
-static const size_t bounds[FUNCTIONS] = {[CHECK] = 128 << 10, [COMPILE] = 192 << 10, [DESCRIBE] = 128 << 10,
-                                         [LOAD] = 128 << 10,  [CLEAR] = 128 << 10,   [POKE] = 128 << 10,
-                                         [PEEK] = 128 << 10,  [CALLED] = 576 << 10};
+static const size_t bounds[FUNCTIONS] = {[CHECK] = 112 << 10, [COMPILE] = 192 << 10, [DESCRIBE] = 112 << 10,
+                                         [LOAD] = 112 << 10,  [CLEAR] = 112 << 10,   [POKE] = 112 << 10,
+                                         [PEEK] = 112 << 10,  [CALLED] = 384 << 10};
 
 /* the same for images of at most SHORT words; the compiler has none, since its result may be long */
 #define SHORT 512
-static const size_t short_bounds[FUNCTIONS] = {[CHECK] = 48 << 10, [DESCRIBE] = 48 << 10, [LOAD] = 48 << 10,
-                                               [CLEAR] = 48 << 10, [POKE] = 48 << 10,     [PEEK] = 48 << 10,
-                                               [CALLED] = 160 << 10};
+static const size_t short_bounds[FUNCTIONS] = {[CHECK] = 36 << 10, [DESCRIBE] = 36 << 10, [LOAD] = 36 << 10,
+                                               [CLEAR] = 36 << 10, [POKE] = 36 << 10,     [PEEK] = 36 << 10,
+                                               [CALLED] = 128 << 10};
 
 struct job {
     enum function function;
@@ -350,9 +358,8 @@ struct largest {
     struct shape shape;
 };
 
-/* by function: the largest need over all images; apart, over those in source form, short, of the most words, of sixteen
- * fors */
-static struct largest largest[FUNCTIONS], source[FUNCTIONS], shorter[FUNCTIONS], longest[FUNCTIONS], sixteen[FUNCTIONS];
+/* by function: the largest need over all images; apart, over those in source form, short, of the most words, of nine fors */
+static struct largest largest[FUNCTIONS], source[FUNCTIONS], shorter[FUNCTIONS], longest[FUNCTIONS], nine[FUNCTIONS];
 
 static void keep(struct largest *kept, size_t bytes, const struct shape *s)
 {
@@ -369,9 +376,10 @@ static bool expected(const struct job *job, const struct shape *s)
     return job->function == COMPILE && s->form == 1 ? a.number == 14 : a.status == TINESAGE_DONE;
 }
 
-static bool sixteen_fors(const struct shape *s)
+/* as many as leave a level for an operand */
+static bool nine_fors(const struct shape *s)
 {
-    return (s->nest == FOR && s->depth == 16) || (s->nest == FOR_THEN_SECRET_IF && s->depth == 17);
+    return (s->nest == FOR && s->depth == 9) || (s->nest == FOR_THEN_SECRET_IF && s->depth == 10);
 }
 
 static void measure(enum function function, const struct shape *s, const struct image *image)
@@ -392,8 +400,8 @@ static void measure(enum function function, const struct shape *s, const struct 
         keep(&shorter[function], bytes, s);
     if (s->longest)
         keep(&longest[function], bytes, s);
-    if (sixteen_fors(s))
-        keep(&sixteen[function], bytes, s);
+    if (nine_fors(s))
+        keep(&nine[function], bytes, s);
 }
 
 static void measure_all(const struct shape *s)
@@ -455,7 +463,7 @@ int main(void)
         print_row("images in source form", (enum function)f, &source[f]);
         print_row("images of at most 512 words", (enum function)f, &shorter[f]);
         print_row("images of the most words", (enum function)f, &longest[f]);
-        print_row("sixteen fors", (enum function)f, &sixteen[f]);
+        print_row("nine fors", (enum function)f, &nine[f]);
     }
     for (int f = CHECK; f < FUNCTIONS; f++) {
         judge("all images", (enum function)f, &largest[f], bounds[f]);

@@ -193,12 +193,12 @@ pub fn growth_table(passes: u32) {
 // ---- fors inside each other ----
 
 /// A for's body is checked with the rc that it ends with. A return under a secret if makes that rc secret;
-/// a checker that walked each body twice for it would take 2^16 times as long for sixteen fors.
+/// a checker that walked each body twice for it would take 2^8 times as long for eight fors.
 pub fn nesting_table() {
     println!();
     println!("| fors inside each other | words | answer | library, microseconds | second program, microseconds |");
     println!("| --- | ---: | --- | ---: | ---: |");
-    for (form, count) in [(0, 8), (0, 13), (1, 8), (1, 16)] {
+    for (form, count) in [(0, 4), (0, 7), (1, 4), (1, 8)] {
         for returns in [false, true] {
             let image = nested_fors(form, count, returns);
             let innermost = if returns { "a return under a secret if" } else { "an assignment" };

@@ -101,7 +101,7 @@ impl<W: Write> Generator<W> {
             5..=10 => (self.random.between(1, 3), 60),
             _ => (self.random.between(1, 5), self.random.between(80, 300) as usize),
         };
-        let depth = if self.random.chance(6) { 36 } else { self.random.between(1, 4) };
+        let depth = if self.random.chance(6) { 21 } else { self.random.between(1, 4) };
         Shape { form, procedures, room, depth, slip }
     }
 

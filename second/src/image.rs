@@ -42,9 +42,9 @@ impl Form {
 
     pub fn max_level(self) -> u32 {
         if self == Form::Source {
-            32
+            19
         } else {
-            40
+            22
         }
     }
 

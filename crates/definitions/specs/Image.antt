@@ -34,9 +34,9 @@ headerWord w =
 abbrev pub largestImage : ℕ → ℕ
 largestImage form = pick (eqb form 0) 4096 16384
 
--- "Largest level 32 in form 0, 40 in form 1."
+-- Document 02, wish 1: "it becomes 19 for source images and 22 for compiled ones"
 abbrev pub largestLevel : ℕ → ℕ
-largestLevel form = pick (eqb form 0) 32 40
+largestLevel form = pick (eqb form 0) 19 22
 
 -- "2, one per array: label × 65536 + length. Label 0 public, 1 secret."
 abbrev pub arraySecret : ℕ → Bool

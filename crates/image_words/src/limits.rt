@@ -16,9 +16,9 @@ pub fn largest_level(form: u32) -> u32
     ensures { λ r. ⌜ r ≡ largestLevel form ⌝ }
 {
     if form == 0 {
-        return 32;
+        return 19;
     }
-    40
+    22
 }
 
 pub fn most_locals(form: u32) -> u32

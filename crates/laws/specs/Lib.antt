@@ -1,7 +1,9 @@
 pub mod Admitted
 pub mod Cells
+pub mod Deeper
 pub mod ExpressionInversion
 pub mod Faultless
+pub mod FormerLevels
 pub mod ImageIn
 pub mod Later
 pub mod Least

@@ -33,12 +33,12 @@ use Rattle.procedures.proofs.Shapes.{closed-count, closed-words, types-
 
 -- ---- a procedure of form 0, by its number
 
-module _ (image table : List ℕ) (f : ℕ) (h : Listed image table f) (s : imageIn image .form ≡ 0) (l : ℕ) (hl : l ≡ 32) (at : ℕ) (ha : at ≡ bodyIn table f) where
+module _ (image table : List ℕ) (f : ℕ) (h : Listed image table f) (s : imageIn image .form ≡ 0) (l : ℕ) (hl : l ≡ largestLevel 0) (at : ℕ) (ha : at ≡ bodyIn table f) where
   body-reads : (m : ℕ) × (readBlock l (paramsIn table) f image at ≡ got (procedureIn image f .body) m)
   body-reads =
       let (m, e) = known-reads image table (h .known) f (h .number) in (
         m,
-        ap (λ (z : ℕ). readBlock z (paramsIn table) f image at) hl ∙ ap (λ (z : ℕ). readBlock 32 (paramsIn table) f image z) ha
+        ap (λ (z : ℕ). readBlock z (paramsIn table) f image at) hl ∙ ap (λ (z : ℕ). readBlock (largestLevel 0) (paramsIn table) f image z) ha
             ∙ ap (λ (z : ℕ). readBlock (largestLevel z) (paramsIn table) f image (bodyIn table f)) (sym s) ∙ e,
       )
 
@@ -127,10 +127,10 @@ module _ (image table types : List ℕ) (p : Source) (d : Described image table 
       let q = d .parameters-are in
       omega arith
 
-  pub source-body : (l : ℕ) → l ≡ 32 → BlockRead l (paramsIn table) (p .me) image (p .body)
+  pub source-body : (l : ℕ) → l ≡ largestLevel 0 → BlockRead l (paramsIn table) (p .me) image (p .body)
   source-body l hl = body-read image table (p .me) (d .listed) (d .source-form) l hl (p .body) (d .body-is)
 
-  pub types-on : (l n o : ℕ) (out : List ℕ) (a : ℕ) (t1 : List ℕ) (b : ℕ) (t2 : List ℕ) (v : Typed) (t3 : List ℕ) → l ≡ 32 → n ≡ p .parameters
+  pub types-on : (l n o : ℕ) (out : List ℕ) (a : ℕ) (t1 : List ℕ) (b : ℕ) (t2 : List ℕ) (v : Typed) (t3 : List ℕ) → l ≡ largestLevel 0 → n ≡ p .parameters
       → _≡_ {A = Output} (a, t1) (writes o out (take n types ++ (pick (p .guarded) (secretBoolean ∷ []) [] ++ drop n types)))
       → _≡_ {A = Output} (b, t2) (writes a t1 (pick (p .defers) (p .result ∷ (secretBoolean ∷ [])) []))
       → _≡_ {A = Typing} (v, t3) (typedBlock (proceduresIn image) (arraysIn table) types (record { me = p .me; pc = p .guarded })
@@ -158,7 +158,7 @@ module _ (image table types : List ℕ) (p : Source) (d : Described image table 
       ∙ ap (λ (ws : List ℕ). writes o out ws) (types-words (proceduresIn image) A P)
 
   pub inner-on : (l o : ℕ) (out : List ℕ) (size g e first s q : ℕ) (t1 : List ℕ) (c : Cursor) (t2 : List ℕ) (r : ℕ) (t3 : List ℕ)
-      → l ≡ 32 → size ≡ length types → g ≡ pick (p .guarded) 1 0 → e ≡ pick (p .defers) 2 0 → first ≡ pick (p .guarded) (p .parameters) size
+      → l ≡ largestLevel 0 → size ≡ length types → g ≡ pick (p .guarded) 1 0 → e ≡ pick (p .defers) 2 0 → first ≡ pick (p .guarded) (p .parameters) size
       → s ≡ pick (p .defers) 1 0
       → _≡_ {A = Output} (q, t1) (writes o out (pick (p .defers) (statementWordWith 0 (size + g + 1) ∷ (wordWith 9 1 ∷ [])) []))
       → _≡_ {A = Emission} (c, t2) (emittedBlock (proceduresIn image) (arraysIn table) types

@@ -1,8 +1,9 @@
--- The three properties that Tinesage promises, and that the C functions have them. A reader needs the definitions (crates/definitions/specs), what
--- stands in crates/statements/specs, and document 01 beside them; the proofs stand elsewhere, and are cited at the end of each section.
--- Every function named here is a request of the definitions on lent bytes (Host). All of them are total, so each gives an answer; `Bytes` says that
--- what is lent are bytes. Assumes nothing.
-use Prim.Native.Nat.{ℕ, _+_, _*_, _≤_, _<_}
+-- The three properties that Tinesage promises, what the wishes of document 02 add, and that the C functions have them. A reader needs the definitions
+-- (crates/definitions/specs), what stands in crates/statements/specs, and documents 01 and 02 beside them; the proofs stand elsewhere, and are cited at
+-- the end of each section. Every function named here is a request of the definitions on lent bytes (Host). All of them are total, so each gives an
+-- answer; `Bytes` says that what is lent are bytes. Assumes nothing.
+use Prim.Native.Nat.{ℕ, suc, _+_, _*_, _≤_, _<_}
+use mathlib.Core.Bool.{true}
 use mathlib.Core.List.{List}
 use mathlib.Core.Path.{_≡_}
 use lib.ListN.{length, take, drop}
@@ -13,12 +14,12 @@ use Rattle.definitions.specs.declared.Checked.the-variants.{Accepted, Refused a
 use Rattle.definitions.specs.declared.Compiled.{Compiled}
 use Rattle.definitions.specs.declared.Compiled.the-variants.{Written, Refused as CompileRefused}
 use Rattle.definitions.specs.Bytes.{Bytes, wordAt, wordsOf, lent}
-use Rattle.definitions.specs.Image.{Image, cellCount, baseOf}
+use Rattle.definitions.specs.Image.{largestLevel, Image, cellCount, baseOf}
 use Rattle.definitions.specs.Encoding.{imageWords}
 use Rattle.definitions.specs.Reading.{refused, readImage}
 use Rattle.definitions.specs.Sorts.{imageSortFaults}
 use Rattle.definitions.specs.Labels.{imageLabelFaults}
-use Rattle.definitions.specs.Compiling.{compiledImage}
+use Rattle.definitions.specs.Compiling.{compiledImage, fitLocals}
 use Rattle.definitions.specs.Requests.{Called}
 use Rattle.definitions.specs.Host.{wholeWords, checkBytes, compileBytes, loadBytes, clearBytes, pokeBytes, peekBytes}
 use Rattle.definitions.specs.Host.{callBytes, describeBytes}
@@ -28,6 +29,11 @@ use Rattle.statements.specs.Statements.{recordedIn, SameOrSpent, SameOrFilled, 
 use Rattle.statements.specs.Statements.{Compilable, SameMeaning, Machine, empty, Request, responses, AlikeLists, SameTurns}
 use Rattle.statements.specs.Statements.{answerIn, checkedIn, compiledIn}
 use Rattle.tinesage.specs.Contracts.{Checks, Compiles, Describes, Loads, Clears, Pokes, Peeks, Calls}
+use Rattle.statements.specs.Limits.{FitsImage}
+use Rattle.statements.specs.FormerLimits.{readImageBy, formerReadImage, From, Kept, WithinLimits, SameAnswers}
+use Rattle.laws.specs.FormerLevels.{by-image, limits-keep-answers, one-level-more, same-answers}
+use Rattle.readback.specs.Whole.{image-compiled-fits}
+use Rattle.results.specs.WithinLimits.{within-limits}
 use Rattle.results.specs.Accepted.{accepted-exactly, refused-exactly, reading-number, sort-number, label-number}
 use Rattle.results.specs.Exactly.{loaded-or-not, ready-or-not, cell-or-not, called-or-not, load-refused-exactly, load-is-done}
 use Rattle.results.specs.Exactly.{clear-refused-exactly, clear-is-done, poke-refused-exactly, poke-is-done}
@@ -218,6 +224,42 @@ pub record Property3 : Type 0 where
 
 pub property-3 : Property3
 property-3 = record { same-turns = secrecy; served-to-the-end = served-to-the-end }
+
+-- ======== Document 02, wish 1
+-- "Every image within the new limits keeps its answers": the nesting limit is 19 for source images and 22 for compiled ones, and was 32 and 40.
+
+pub record Wish1 : Type 0 where
+  -- Reading by given largest levels is reading, if they are today's: so the former reading is another in its levels alone.
+  pub by-levels : (image : List ℕ)
+      → readImageBy largestLevel (wholeWords image) (wordsOf image) ≡ readImage (wholeWords image) (wordsOf image)
+  -- Reading gives what it gave by the former limits, a tree or a refusal of 1 to 4; or it is refused with 5 at a word of the image, and the former reading
+  -- went on behind that word.
+  pub limits-keep-answers : (image : List ℕ)
+      → Kept (wordsOf image) (readImage (wholeWords image) (wordsOf image)) (formerReadImage (wholeWords image) (wordsOf image))
+  -- That word is the first that is too deep, by one level: with one level more, reading goes on behind it.
+  pub one-level-more : (image : List ℕ) (p : ℕ) → readImage (wholeWords image) (wordsOf image) ≡ refused 5 p
+      → From (suc p) (readImageBy (λ form. largestLevel form + 1) (wholeWords image) (wordsOf image))
+  -- So an image that is not refused with 5 has the answers that it had, whatever is asked;
+  pub same-answers : (image : List ℕ) → ((p : ℕ) → checkBytes image ≡ CheckRefused 5 p → ⊥) → SameAnswers (wholeWords image) (wordsOf image)
+  -- and every image within the new limits is one of these.
+  pub within-limits : (image : List ℕ) (tree : Image) → WithinLimits (wholeWords image) (wordsOf image) tree
+      → SameAnswers (wholeWords image) (wordsOf image)
+  -- A compiled tree is never too deep: with few enough locals it keeps every limit of form 1, so 15 comes from locals or length alone.
+  pub never-too-deep : (image : List ℕ) (tree : Image) → AdmissibleBytes image tree → tree .form ≡ 0
+      → fitLocals (compiledImage tree .procedures) ≡ true → FitsImage (compiledImage tree)
+
+pub wish-1 : Wish1
+unfolding checkBytes
+wish-1 =
+    record {
+      by-levels = λ image. by-image (wholeWords image) (wordsOf image);
+      limits-keep-answers = λ image. limits-keep-answers (wholeWords image) (wordsOf image);
+      one-level-more = λ image. one-level-more (wholeWords image) (wordsOf image);
+      same-answers = λ image. same-answers (wholeWords image) (wordsOf image);
+      within-limits = λ image. within-limits (wholeWords image) (wordsOf image);
+      never-too-deep = λ image tree a source. image-compiled-fits tree
+          (record { read = a .limits; source-form = source; no-sort-fault = a .no-sort-fault; no-label-fault = a .no-label-fault });
+    }
 
 -- ======== The C functions
 -- What a host reads in the 28 bytes or more that it lent for the answer, and what the lent slices hold, are the definition's: so each clause above is

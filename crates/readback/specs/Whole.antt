@@ -9,7 +9,7 @@ use lib.Dec.{leb}
 use lib.ListN.{length, replicate}
 use borrow.Author.Tests.{leb-true}
 use Rattle.definitions.specs.Choice.{pick}
-use Rattle.definitions.specs.Image.{Block, Procedure, Image, guarded, procedureAt}
+use Rattle.definitions.specs.Image.{largestLevel, Block, Procedure, Image, guarded, procedureAt}
 use Rattle.definitions.specs.Sorts.{ordinary, markBlock, procedureSortFaults, proceduresSortFaults, imageSortFaults}
 use Rattle.definitions.specs.Labels.{unbounded, blockLabelFaults, procedureLabelFaults, proceduresLabelFaults}
 use Rattle.definitions.specs.Labels.{imageLabelFaults}
@@ -18,11 +18,12 @@ use Rattle.definitions.specs.Compiling.{firstTemporary, firstMoved, closed, com
 use Rattle.definitions.specs.Compiling.{compiledProcedure, compiledProcedures, compiledImage, fitLocals}
 use Rattle.laws.specs.Tests.{false-true, and-left, and-right, nil-left, nil-right}
 use Rattle.laws.specs.Spelled.{On, on-split, on-end}
-use Rattle.statements.specs.Limits.{FitsProcedure, FitsProcedures, no-procedures, more-procedures, arityOf, FitsImage}
+use Rattle.statements.specs.Limits.{FitsBlock, FitsProcedure, FitsProcedures, no-procedures, more-procedures, arityOf}
+use Rattle.statements.specs.Limits.{FitsImage}
 use Rattle.laws.specs.ReadImages.{procedure-fits}
 use Rattle.readback.specs.Good.{GoodBlock}
 use Rattle.readback.specs.Marks.{mark-closed, mark-block, marked-start}
-use Rattle.readback.specs.Levels.{DeepBlock, deep-block, raise-block, deep-compiled, deep-closed, good-deep-block}
+use Rattle.readback.specs.Levels.{DeepBlock, deep-block, deep-compiled, deep-closed, good-deep-block}
 use Rattle.readback.specs.Layout.{compiled-room, compiled-below, compiled-typed, compiled-local, guard-room}
 use Rattle.readback.specs.Layout.{guard-fresh, guard-type, extra-stands, compiled-callee, compiled-at}
 use Rattle.readback.specs.Layout.{compiled-count, all-compiled}
@@ -144,6 +145,14 @@ few-guards p = go (guarded p)
 close-block : (d : Bool) (rv : ℕ) {l : ℕ} {b : Block} → DeepBlock (suc (suc (suc l))) b → DeepBlock (suc (suc (suc l))) (closed d rv b)
 close-block d rv (deep-block x) = deep-block (deep-closed d rv x)
 
+-- A compiled body's words stand at most three levels below the source's: its levels alone never make a result too large.
+pub levels-suffice : (ps : List Procedure) (arrays : List ℕ) (me : ℕ) (p : Procedure) → FitsBlock (arityOf ps) me (largestLevel 0) (p .body)
+    → DeepBlock (largestLevel 1) (compiledBody ps arrays p)
+unfolding compiledBody
+levels-suffice ps arrays me p fit =
+    close-block (defers arrays p) (returnVariable p)
+    (deep-compiled ps arrays (p .types) (firstMoved p) (returnVariable p) (arityOf ps) me fit (guarded p) (p .parameters) false (firstTemporary arrays p))
+
 procedure-compiled-fits :
     (ps ps′ : List Procedure) (arrays : List ℕ) (me : ℕ) (p : Procedure) → FitsProcedure 0 (arityOf ps) me p → GoodProcedure ps′ arrays me (compiledProcedure ps arrays p)
     → leb (length (compiledProcedure ps arrays p .types) - compiledProcedure ps arrays p .parameters) 246 ≡ true → me ≤ 32 → length arrays ≤ 16
@@ -163,10 +172,7 @@ procedure-compiled-fits ps ps′ arrays me p fit good locals low few =
       result-typed = fit .result-typed;
       all-typed = all-compiled ps arrays p (fit .all-typed) (fit .result-typed);
       body-fits = good-deep-block ps′ me (p .parameters + guards p) (compiledTypes ps arrays p) (p .result) arrays (omega arith) few low
-          (close-block (defers arrays p) (returnVariable p) (raise-block (raise-block (raise-block (raise-block (raise-block
-          (deep-compiled ps arrays (p .types) (firstMoved p) (returnVariable p) (arityOf ps) me (fit .body-fits) (guarded p) (p .parameters) false
-          (firstTemporary arrays p))))))))
-          good;
+          (levels-suffice ps arrays me p (fit .body-fits)) good;
     }
 
 module _ (ps : List Procedure) (arrays : List ℕ) (few : length arrays ≤ 16) where

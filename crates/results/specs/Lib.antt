@@ -9,3 +9,4 @@ pub mod Exactly
 pub mod Written
 pub mod TwoRuns
 pub mod StoppedExactly
+pub mod WithinLimits

@@ -177,10 +177,11 @@ module _ (l : ℕ) (image table ends : List ℕ) (me at : ℕ) (g : StatementRea
 
 -- ---- a procedure's body
 
-pub level-small : (form top : ℕ) → top ≡ largestLevel form → top ≤ 40
+-- no form has more levels than the compiled one
+pub level-small : (form top : ℕ) → top ≡ largestLevel form → top ≤ largestLevel 1
 level-small form top e = rw e (go (eqb form 0))
   where
-    go : (b : Bool) → pick b 32 40 ≤ 40
+    go : (b : Bool) → pick b (largestLevel 0) (largestLevel 1) ≤ largestLevel 1
     go true = omega arith
     go false = omega arith
 

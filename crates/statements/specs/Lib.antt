@@ -1,2 +1,3 @@
+pub mod FormerLimits
 pub mod Limits
 pub mod Statements

@@ -88,7 +88,7 @@ pub record FitsProcedure (form : ℕ) (arity : ℕ → ℕ) (me : ℕ) (p : Proc
   -- "Result, parameters, locals; then the body, a block."
   pub result-typed : typeWord (p .result) ≡ true
   pub all-typed : AllTypes (p .types)
-  -- "Largest level 32 in form 0, 40 in form 1."
+  -- Document 02, wish 1: "it becomes 19 for source images and 22 for compiled ones"
   pub body-fits : FitsBlock arity me (largestLevel form) (p .body)
 
 -- the procedures from a number on
