@@ -148,6 +148,70 @@ static void compile_cases(void)
     }
 }
 
+/* ---- compiled images that are longer than short arrays, or over the limits: the words are there before the refusal is ---- */
+
+static uint8_t source[4 * TINESAGE_MOST_SOURCE_WORDS], result[4 * TINESAGE_MOST_WORDS + 7];
+static size_t source_words;
+
+static void push(uint32_t word)
+{
+    tinesage_put_word(source, source_words++, word);
+}
+
+/* one guarded procedure of so many equal returns; each but the first becomes fourteen words */
+static void make_returns(uint32_t count)
+{
+    source_words = 0;
+    push(0x10000001), push(0x30010000), push(0x40000001), push(0x50000000 | count);
+    for (uint32_t i = 0; i < count; i++)
+        push(0x60040000), push(0x70000001);
+}
+
+/* one procedure of so many empty ifs over a secret parameter; each takes two locals */
+static void make_ifs(uint32_t count)
+{
+    source_words = 0;
+    push(0x10000001), push(0x30000100), push(0x40000001), push(0x40000003), push(0x50000000 | count);
+    for (uint32_t i = 0; i < count; i++)
+        push(0x60020000), push(0xA0000000), push(0x50000000), push(0x50000000);
+}
+
+/* `number` 0: the result is written, and can be loaded; else no byte is */
+static void expect_compiled(const char *what, size_t length, uint32_t number, size_t words)
+{
+    uint8_t bytes[TINESAGE_ANSWER];
+    memset(result, 0xA5, sizeof result);
+    tinesage_compile(source, 4 * source_words, result, length, bytes, sizeof bytes);
+    struct tinesage_answer a = tinesage_read_answer(bytes);
+    int stays = 1;
+    for (size_t i = 4 * words; i < sizeof result; i++)
+        stays = stays && result[i] == 0xA5;
+    expect(what, a.number == number && a.count == words && stays);
+    if (number != 0)
+        return;
+    tinesage_load(result, 4 * words, NULL, 0, bytes, sizeof bytes);
+    expect("compile: a long result can be loaded", tinesage_read_answer(bytes).status == TINESAGE_DONE);
+}
+
+static void long_compile_cases(void)
+{
+    static const uint32_t counts[] = {60, 200, 1000}; /* short, short with a long result, long */
+    for (size_t i = 0; i < sizeof counts / sizeof counts[0]; i++) {
+        size_t words = 7 + 14 * (size_t)counts[i];
+        make_returns(counts[i]);
+        expect_compiled("compile: a result is written", sizeof result, 0, words);
+        expect_compiled("compile: a result that fills its slice is written", 4 * words, 0, words);
+        expect_compiled("compile: 16 where a word is missing", 4 * words - 1, 16, 0);
+        expect_compiled("compile: 16 where most are missing", 4, 16, 0);
+    }
+    make_returns(2000);
+    expect_compiled("compile: 15 for too many words", sizeof result, 15, 0);
+    expect_compiled("compile: 15 for too many words before 16", 0, 15, 0);
+    make_ifs(124);
+    expect_compiled("compile: 15 for too many locals", sizeof result, 15, 0);
+    expect_compiled("compile: 15 for too many locals before 16", 0, 15, 0);
+}
+
 /* Source form, one array, one procedure, two cells; a public array of two; an open procedure with one parameter, its
  * types public words. */
 static const uint32_t description[] = {0, 1, 1, 2, 0, 2, 0, 1, 0, 0, 0, 0, 0, 0, 0, 0, 0, 0};
@@ -293,6 +357,7 @@ int main(void)
         tinesage_put_word(writer, i, writer_words[i]);
     check_cases();
     compile_cases();
+    long_compile_cases();
     describe_cases();
     load_and_clear_cases();
     poke_and_peek_cases();

@@ -15,11 +15,11 @@ use Rattle.definitions.specs.declared.Compiled.the-variants.{Refused}
 use Rattle.definitions.specs.Image.{formOf, Image}
 use Rattle.definitions.specs.Reading.{Parse, got, refused}
 use Rattle.definitions.specs.Checking.{faultOf, admitted, verdict, checked}
-use Rattle.definitions.specs.Compiling.{compiledImage, written, compiledTree, compiled}
 use Rattle.laws.specs.Admitted.{admit}
 use Rattle.laws.specs.ImageIn.{imageIn, image-read}
 use Rattle.tables.specs.Table.{Known}
 use Rattle.tables.specs.Looking.{form-is}
+use Rattle.compiler.specs.Compile.{answerOn, treeOn, compiledOn}
 
 -- ---- an image that was accepted
 
@@ -27,30 +27,30 @@ module _ (words table out : List ℕ) (k : Known words table) (clean : faultOf (
   pub form-told : imageIn words .form ≡ w
   form-told = form-is words table k ∙ sym e
 
-  whole-is : (X : Compiled × List ℕ) → X ≡ pick (eqb (imageIn words .form) 0) (written (compiledImage (imageIn words)) out) (Refused 14 0, out) → X ≡ compiled true words out
-  unfolding compiled compiledTree
+  whole-is : (X : Compiled × List ℕ) → X ≡ pick (eqb (imageIn words .form) 0) (answerOn (imageIn words) out) (Refused 14 0, out) → X ≡ compiledOn true words out
+  unfolding compiledOn treeOn
   whole-is X h =
       let (n, r) = image-read words (k .read) in
       rw (admit true words (imageIn words) n r clean) h
 
-  pub form-given : (w ≡ 0 → ⊥) → _≡_ {A = Compiled × List ℕ} (Refused 14 0, out) (compiled true words out)
+  pub form-given : (w ≡ 0 → ⊥) → _≡_ {A = Compiled × List ℕ} (Refused 14 0, out) (compiledOn true words out)
   form-given h = whole-is (Refused 14 0, out) (rw (ne-eqb (imageIn words .form) 0 (λ z. h (sym form-told ∙ z))))
 
-  pub source-written : w ≡ 0 → (r : Compiled) (after : List ℕ) → _≡_ {A = Compiled × List ℕ} (r, after) (written (compiledImage (imageIn words)) out)
-      → _≡_ {A = Compiled × List ℕ} (r, after) (compiled true words out)
+  pub source-written : w ≡ 0 → (r : Compiled) (after : List ℕ) → _≡_ {A = Compiled × List ℕ} (r, after) (answerOn (imageIn words) out)
+      → _≡_ {A = Compiled × List ℕ} (r, after) (compiledOn true words out)
   source-written h r after q = whole-is (r, after) (rw (eq-eqb (imageIn words .form) 0 (form-told ∙ h)) q)
 
 -- ---- the checker's answer
 
 pub refused-too : (whole : Bool) (words : List ℕ) (c : Checked) → c ≡ checked whole words → (n p : ℕ) → c ≡ NotAccepted n p
-    → (out : List ℕ) → _≡_ {A = Compiled × List ℕ} (Refused n p, out) (compiled whole words out)
-unfolding checked verdict compiled compiledTree
+    → (out : List ℕ) → _≡_ {A = Compiled × List ℕ} (Refused n p, out) (compiledOn whole words out)
+unfolding checked verdict compiledOn treeOn
 refused-too whole words c q n p e out = go (admitted whole words) q
   where
-    go : (x : Parse Image) → c ≡ verdict x → _≡_ {A = Compiled × List ℕ} (Refused n p, out) (compiledTree x out)
+    go : (x : Parse Image) → c ≡ verdict x → _≡_ {A = Compiled × List ℕ} (Refused n p, out) (treeOn x out)
     go (got image m) d = let z : _≡_ {A = ℕ} 0 1 = cc in absurd (omega arith)
     go (refused m o) d = let a : n ≡ m = cc in let b : p ≡ o = cc in rw (a, b)
 
-pub written-whole : (whole : Bool) (words out after : List ℕ) (r : Compiled) → whole ≡ true → _≡_ {A = Compiled × List ℕ} (r, after) (compiled true words out)
-    → _≡_ {A = Compiled × List ℕ} (r, after) (compiled whole words out)
-written-whole whole words out after r w d = d ∙ ap (λ b. compiled b words out) (sym w)
+pub written-whole : (whole : Bool) (words out after : List ℕ) (r : Compiled) → whole ≡ true → _≡_ {A = Compiled × List ℕ} (r, after) (compiledOn true words out)
+    → _≡_ {A = Compiled × List ℕ} (r, after) (compiledOn whole words out)
+written-whole whole words out after r w d = d ∙ ap (λ b. compiledOn b words out) (sym w)

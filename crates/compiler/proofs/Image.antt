@@ -16,7 +16,7 @@ use Rattle.laws.specs.ImageIn.{imageIn, proceduresIn, image-words, arrays-insid
 use Rattle.tables.specs.Table.{Known}
 use Rattle.writer.specs.Writing.{Output, write, writes}
 use Rattle.writer.specs.Laws.{writes-on, writes-app, place, place-far, whole}
-use Rattle.compiler.specs.Compile.{Sizing, sizing, eachOn, imageOn}
+use Rattle.compiler.specs.Compile.{Sizing, sizing, eachOn, imageOn, answerOn}
 use Rattle.compiler.specs.declared.Sized.{Sized}
 
 compiled-count : (ps : List Procedure) (arrays : List ℕ) (rest : List Procedure) → length (compiledProcedures ps arrays rest) ≡ length rest
@@ -61,14 +61,18 @@ module _ (image table : List ℕ) (k : Known image table) (n : ℕ) (hn : n ≡ 
 
 -- ---- sizes and refusals
 
-module _ (tree : Image) (none : List ℕ) (d : Sized) (t : List ℕ) (s : _≡_ {A = Sizing} (d, t) (imageOn tree none)) where
+module _ (tree : Image) (out : List ℕ) (d : Sized) (t : List ℕ) (s : _≡_ {A = Sizing} (d, t) (imageOn tree out)) where
   fits-is : d .fits ≡ fitLocals (compiledImage tree .procedures)
   unfolding imageOn
   fits-is = ap (λ (z : Sizing). z .0 .fits) s
 
-  place-is : d .o ≡ writes 0 none (imageWords (compiledImage tree)) .0
+  place-is : d .o ≡ writes 0 out (imageWords (compiledImage tree)) .0
   unfolding imageOn
   place-is = ap (λ (z : Sizing). z .0 .o) s
+
+  words-are : t ≡ writes 0 out (imageWords (compiledImage tree)) .1
+  unfolding imageOn
+  words-are = ap (λ (z : Sizing). z .1) s
 
   -- the place tells the number of words, or that there are too many
   size-small : d .o ≤ 16384 → d .o ≡ length (imageWords (compiledImage tree))
@@ -77,10 +81,10 @@ module _ (tree : Image) (none : List ℕ) (d : Sized) (t : List ℕ) (s : _≡_ 
       go : (b : Bool) → leb (length (imageWords (compiledImage tree))) 16385 ≡ b → d .o ≡ length (imageWords (compiledImage tree))
       go true k =
           let z : length (imageWords (compiledImage tree)) ≤ 16385 = leb-true _ _ k in
-          place-is ∙ place (imageWords (compiledImage tree)) 0 none (omega arith) ∙ omega arith
+          place-is ∙ place (imageWords (compiledImage tree)) 0 out (omega arith) ∙ omega arith
       go false k =
           let z : 16385 < length (imageWords (compiledImage tree)) = leb-false _ _ k in
-          let y : d .o ≡ 16385 = place-is ∙ place-far (imageWords (compiledImage tree)) 0 none (omega arith) (omega arith) in
+          let y : d .o ≡ 16385 = place-is ∙ place-far (imageWords (compiledImage tree)) 0 out (omega arith) (omega arith) in
           absurd (omega arith)
 
   size-large : 16384 < d .o → 16384 < length (imageWords (compiledImage tree))
@@ -89,34 +93,31 @@ module _ (tree : Image) (none : List ℕ) (d : Sized) (t : List ℕ) (s : _≡_ 
       go : (b : Bool) → leb (length (imageWords (compiledImage tree))) 16384 ≡ b → 16384 < length (imageWords (compiledImage tree))
       go true k =
           let z : length (imageWords (compiledImage tree)) ≤ 16384 = leb-true _ _ k in
-          let y : d .o ≡ 0 + length (imageWords (compiledImage tree)) = place-is ∙ place (imageWords (compiledImage tree)) 0 none (omega arith) in
+          let y : d .o ≡ 0 + length (imageWords (compiledImage tree)) = place-is ∙ place (imageWords (compiledImage tree)) 0 out (omega arith) in
           absurd (omega arith)
       go false k = leb-false _ _ k
 
-  module _ (out : List ℕ) where
-    pub locals-over : not (d .fits) ≡ true → _≡_ {A = Compiled × List ℕ} (Refused 15 0, out) (written (compiledImage tree) out)
-    unfolding written
-    locals-over h = rw (sym fits-is ∙ not-true (d .fits) h)
+  pub locals-over : not (d .fits) ≡ true → _≡_ {A = Compiled × List ℕ} (Refused 15 0, t) (answerOn tree out)
+  unfolding answerOn written
+  locals-over h = rw (sym fits-is ∙ not-true (d .fits) h, words-are)
 
-    pub words-over : (most : ℕ) → most ≡ 16384 → not (d .fits) ≡ false → most < d .o → _≡_ {A = Compiled × List ℕ} (Refused 15 0, out) (written (compiledImage tree) out)
-    unfolding written
-    words-over most e h g = rw (sym fits-is ∙ not-false (d .fits) h, lt-leb _ _ (size-large (omega arith)))
+  module _ (most : ℕ) (e : most ≡ 16384) (f : not (d .fits) ≡ false) where
+    pub words-over : most < d .o → _≡_ {A = Compiled × List ℕ} (Refused 15 0, t) (answerOn tree out)
+    unfolding answerOn written
+    words-over g = rw (sym fits-is ∙ not-false (d .fits) f, lt-leb _ _ (size-large (omega arith)), words-are)
 
-    pub output-short : (most : ℕ) → most ≡ 16384 → not (d .fits) ≡ false → d .o ≤ most → length out < d .o → _≡_ {A = Compiled × List ℕ} (Refused 16 0, out) (written (compiledImage tree) out)
-    unfolding written
-    output-short most e h g k =
+    pub output-short : d .o ≤ most → (room : ℕ) → room ≡ length out → room < d .o → _≡_ {A = Compiled × List ℕ} (Refused 16 0, t) (answerOn tree out)
+    unfolding answerOn written
+    output-short g room r k =
         let z = size-small (omega arith) in
         let a : length (imageWords (compiledImage tree)) ≤ 16384 = omega arith in
         let b : length out < length (imageWords (compiledImage tree)) = omega arith in
-        rw (sym fits-is ∙ not-false (d .fits) h, le-leb _ _ a, lt-leb _ _ b)
+        rw (sym fits-is ∙ not-false (d .fits) f, le-leb _ _ a, lt-leb _ _ b, words-are)
 
-    pub all-written : (most : ℕ) (c : Sized) (t3 : List ℕ) → most ≡ 16384 → not (d .fits) ≡ false → d .o ≤ most → d .o ≤ length out → _≡_ {A = Sizing} (c, t3) (imageOn tree out)
-        → _≡_ {A = Compiled × List ℕ} (Written (d .o), t3) (written (compiledImage tree) out)
-    unfolding written imageOn
-    all-written most c t3 e h g k f =
+    pub all-written : d .o ≤ most → (room : ℕ) → room ≡ length out → d .o ≤ room → _≡_ {A = Compiled × List ℕ} (Written (d .o), t) (answerOn tree out)
+    unfolding answerOn written
+    all-written g room r k =
         let z = size-small (omega arith) in
         let a : length (imageWords (compiledImage tree)) ≤ 16384 = omega arith in
         let b : length (imageWords (compiledImage tree)) ≤ length out = omega arith in
-        let w : t3 ≡ imageWords (compiledImage tree) ++ drop (length (imageWords (compiledImage tree))) out =
-        ap (λ (y : Sizing). y .1) f ∙ whole (imageWords (compiledImage tree)) out a b in
-        rw (sym fits-is ∙ not-false (d .fits) h, le-leb _ _ a, le-leb _ _ b, z, w)
+        rw (sym fits-is ∙ not-false (d .fits) f, le-leb _ _ a, le-leb _ _ b, z, words-are)

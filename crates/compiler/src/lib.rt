@@ -10,11 +10,10 @@ use tables::SIZE;
 use writer::put;
 ghost use mathlib.Core.Path.{_≡_};
 ghost use mathlib.Core.Bool.{true};
-ghost use Rattle.definitions.specs.Compiling.{compiledImage, written};
 ghost use Rattle.laws.specs.ImageIn.{imageIn, proceduresIn};
 ghost use Rattle.tables.specs.Table.{Known};
 ghost use Rattle.tables.specs.Looking.{Listed, procedureIn};
-ghost use Rattle.compiler.specs.Compile.{oneOn, eachOn, imageOn};
+ghost use Rattle.compiler.specs.Compile.{oneOn, eachOn, imageOn, answerOn};
 
 pub mod images; // any image: the checks first
 
@@ -75,23 +74,20 @@ fn emit_image(image: &[u32], table: &[u32; SIZE], out: &mut [u32]) -> Sized
     emit_each(image, table, out, q)
 }
 
-// Compiles an image of form 0 that was read: first the size, by the emission into a slice of one word, then the refusals, then the words.
+// Compiles an image of form 0 that was read into the lent array, and tells the refusals from the place after the last word.
 fn compile_accepted(image: &[u32], table: &[u32; SIZE], out: &mut [u32]) -> Compiled
     requires { ⌜ Known (now image) (now table) × (imageIn (now image) .form ≡ 0) ⌝ }
-    ensures { λ r. ⌜ (r, now (out .exit)) ≡ written (compiledImage (imageIn (now (image .entry)))) (now (out .entry)) ⌝ }
+    ensures { λ r. ⌜ (r, now (out .exit)) ≡ answerOn (imageIn (now (image .entry))) (now (out .entry)) ⌝ }
 {
-    let mut none = [0u32; 1];
-    let d = emit_image(image, table, &mut none);
-    let size = d.o;
+    let d = emit_image(image, table, out);
     if !d.fits {
         return Compiled::Refused(15, 0); // too many locals
     }
-    if largest_image(1) < size {
+    if largest_image(1) < d.o {
         return Compiled::Refused(15, 0); // too many words
     }
-    if out.len() < size {
+    if out.len() < d.o {
         return Compiled::Refused(16, 0);
     }
-    emit_image(image, table, out);
-    Compiled::Written(size)
+    Compiled::Written(d.o)
 }

@@ -1,5 +1,5 @@
 -- The number of operands by kind, and each turn of the loop that passes over expressions. Assumes nothing.
-use mathlib.Core.Path.{_≡_, refl}
+use mathlib.Core.Path.{_≡_}
 use mathlib.Core.List.{List}
 use Prim.Native.Nat.{ℕ, _+_, _-_, _≤_, _<_}
 use native.Mathlib.Omega.{arith}
@@ -26,23 +26,36 @@ module _ (image : List ℕ) (count at left a : ℕ) (s : Skippable image count a
   unfolding Skippable
   skip-within = let (b, r) = s in row-within (inv b r) h
 
-  module _ (k : ℕ) (hk : k ≡ kindOf (getD image a 0)) (p : ℕ) (hp : p ≡ operandCount k) (w : ℕ) (hw : w ≡ wordCount k) where
-    pub skip-turn : (b : ℕ) → Row image count at b → Row image (left - 1 + p) (a + w) b
-    skip-turn b r = rw (hp, hw) (row-next image left a b k (inv b r) h hk)
+  -- what is left behind this word, and its place, stay within the image
+  room : (n m : ℕ) → ((b : ℕ) → Row image count at b → Row image n m b) → n + m ≤ length image
+  unfolding Skippable
+  room n m turn =
+      let (b, r) = s in
+      let (few, last) = row-bound (inv b r) in
+      let (fits, rest) = row-bound (turn b r) in
+      let end = last h in
+      omega arith
 
-    -- the place after this word, and what is then left, stay within the image
-    pub skip-room : left - 1 + p + (a + w) ≤ length image
-    unfolding Skippable
-    skip-room =
-        let (b, r) = s in
-        let (few, last) = row-bound (inv b r) in
-        let (fits, rest) = row-bound (skip-turn b r) in
-        let end = last h in
-        omega arith
+  module _ (k : ℕ) (hk : k ≡ kindOf (getD image a 0)) where
+    module _ (raw : k ≡ 8) where
+      pub raw-turn : (b : ℕ) → Row image count at b → Row image (left - 1) (a + 2) b
+      raw-turn b r =
+          let x : Row image (left - 1 + operandCount 8) (a + wordCount 8) b = rw raw at (row-next image left a b k (inv b r) h hk) in
+          let z : left - 1 + 0 ≡ left - 1 = omega arith in
+          rw z at x
 
-  -- the same before the word's length is known
-  pub skip-count : (k : ℕ) → k ≡ kindOf (getD image a 0) → (p : ℕ) → p ≡ operandCount k → left - 1 + p ≤ length image
-  skip-count k hk p hp = let x = skip-room k hk p hp (wordCount k) refl in omega arith
+      pub raw-room : left - 1 + (a + 2) ≤ length image
+      raw-room = room (left - 1) (a + 2) raw-turn
+
+    module _ (other : k ≡ 8 → ⊥) (p : ℕ) (hp : p ≡ operandCount k) where
+      pub other-turn : (b : ℕ) → Row image count at b → Row image (left - 1 + p) (a + 1) b
+      other-turn b r =
+          let x : Row image (left - 1 + operandCount k) (a + wordCount k) b = row-next image left a b k (inv b r) h hk in
+          let y : Row image (left - 1 + operandCount k) (a + 1) b = rw (ne-eqb k 8 other) at x in
+          rw hp y
+
+      pub other-room : left - 1 + p + (a + 1) ≤ length image
+      other-room = room (left - 1 + p) (a + 1) other-turn
 
 pub skip-done : (image : List ℕ) (count at left a : ℕ) → Skippable image count at → ((b : ℕ) → Row image count at b → Row image left a b)
     → left ≤ 0 → Row image count at a

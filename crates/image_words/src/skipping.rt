@@ -1,7 +1,7 @@
 // The place after expressions, by one loop that counts how many are still to be passed over.
 ghost use mathlib.Core.Path.{_≡_};
 ghost use Prim.Native.Nat.{_≤_};
-ghost use Rattle.image_words.specs.Skipping.{operandCount, wordCount, Row, Skippable};
+ghost use Rattle.image_words.specs.Skipping.{operandCount, Row, Skippable};
 use super::kind;
 use super::kinds;
 
@@ -21,17 +21,8 @@ fn operand_count(k: u32) -> usize
     3
 }
 
-// The number of its own words.
-fn word_count(k: u32) -> usize
-    ensures { λ r. ⌜ (r ≡ wordCount k) × (1 ≤ r) × (r ≤ 2) ⌝ }
-{
-    if k == kinds::RAW_CONSTANT {
-        return 2;
-    }
-    1
-}
-
-// The place after `count` expressions in a row, which were read.
+// The place after `count` expressions in a row, which were read. A raw constant, which alone has two words, is a branch of its own: the next
+// word is then looked at without waiting for the kind of this one.
 pub fn skip(image: &[u32], at: usize, count: usize) -> usize
     requires { ⌜ Skippable (now image) count at ⌝ }
     ensures { λ r. ⌜ Row (now (image .entry)) count at r ⌝ }
@@ -40,8 +31,13 @@ pub fn skip(image: &[u32], at: usize, count: usize) -> usize
     let mut left = count;
     while 0 < left {
         let k = kind(image[a]);
-        left = left - 1 + operand_count(k);
-        a += word_count(k);
+        if k == kinds::RAW_CONSTANT {
+            left -= 1;
+            a += 2;
+        } else {
+            left = left - 1 + operand_count(k);
+            a += 1;
+        }
     }
     a
 }

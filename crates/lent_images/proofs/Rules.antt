@@ -23,7 +23,9 @@ use Rattle.definitions.specs.declared.Compiled.the-variants.{Written, Refused}
 use Rattle.laws.specs.Tests.{and-right}
 use Rattle.laws.specs.WordsOfBytes.{lent-front, length-wordsOf, lent-wordsOf}
 use Rattle.describing.specs.Sizes.{description-short}
-use Rattle.lent_images.specs.Counts.{countOf, Output, handed, attempt, placed, count-within, count-described}
+use Rattle.compiler.specs.Compile.{compiledOn}
+use Rattle.compiler.specs.Kept.{countOf, placed, words-kept, answers-equal}
+use Rattle.lent_images.specs.Counts.{Output, handed, attempt, count-within, count-described}
 use Rattle.requests.specs.LongImages.{front, wholeAndShort, same-admitted, same-checked, same-compiled}
 
 -- what an output on the words of lent bytes leaves in them
@@ -126,19 +128,24 @@ module _ (F : List ℕ → Output) (few : (o : List ℕ) → countOf (F o .0) �
 -- ---- the compiler, with lent arrays
 
 module _ (part b result after : List ℕ) (whole : Bool) (room : ℕ) (a : Compiled) (space : room ≡ min (length b / 4) (length result))
-    (q : _≡_ {A = Output} (a, take room after) (compiled whole part (take room result))) where
-  few : (o : List ℕ) → countOf (compiled whole part o .0) ≤ length o
+    (q : _≡_ {A = Output} (a, take room after) (compiledOn whole part (take room result))) where
+  few : (o : List ℕ) → countOf (compiledOn whole part o .0) ≤ length o
   unfolding compiled
-  few o = count-within (admitted whole part) o
+  few o = rw (answers-equal whole part o) (count-within (admitted whole part) o)
+
+  -- what goes into the bytes are the words that the answer counts
+  handed-kept : (o : List ℕ) → handed b (compiledOn whole part o) ≡ handed b (compiled whole part o)
+  handed-kept o = ap (λ (k : Output). (k .0, bytesOf (k .1) ++ drop (4 * countOf (k .0)) b)) (words-kept whole part o)
 
   pub hand-over-asks : length after ≡ length result → (countOf a ≤ length after) × (4 * countOf a ≤ length b)
-  hand-over-asks l = few-asked (compiled whole part) few b result after room a space q l
+  hand-over-asks l = few-asked (compiledOn whole part) few b result after room a space q l
 
   pub attempted : (image : List ℕ) → part ≡ front image → whole ≡ wholeAndShort image → (r : Compiled) (left : List ℕ) → r ≡ a
       → left ≡ bytesOf (take (countOf a) after) ++ drop (4 * countOf a) b → _≡_ {A = Output} (r, left) (attempt image b result)
   unfolding attempt
   attempted image e w r left ra l =
-      handed-over (compiled whole part) few b result after room a space q r left ra l
+      handed-over (compiledOn whole part) few b result after room a space q r left ra l
+      ∙ handed-kept (take (min (length b / 4) (length result)) result)
       ∙ ap (handed b) (same-compiled image part whole e w (take (min (length b / 4) (length result)) result))
 
 -- ---- the compiler, with arrays of its own
@@ -162,6 +169,10 @@ module _ (image b result : List ℕ) (h : Bytes b) where
       leb-true (length (imageWords (compiledImage tree))) 16384
       (and-right (fitLocals (compiledImage tree .procedures)) (leb (length (imageWords (compiledImage tree))) 16384) g) in
       let s = tried-long in omega arith)
+
+  -- where it has as much room as the bytes
+  pub attempt-equal : length b / 4 ≤ length result → attempt image b result ≡ compileBytes image b
+  attempt-equal room = tried-fair (λ tree n e f g l. let s = tried-long in omega arith)
 
   -- where the answer is not that there was too little
   pub attempt-short : (attempt image b result .0 ≡ Refused 16 0 → ⊥) → attempt image b result ≡ compileBytes image b

@@ -19,10 +19,7 @@ use Rattle.definitions.specs.Host.{wholeWords, compileBytes}
 use Rattle.definitions.specs.declared.Compiled.{Compiled}
 use Rattle.definitions.specs.declared.Compiled.the-variants.{Written, Refused}
 use Rattle.laws.specs.WordsOfBytes.{length-wordsOf}
-
-abbrev pub countOf : Compiled → ℕ
-countOf (Written n) = n
-countOf (Refused k p) = 0
+use Rattle.compiler.specs.Kept.{countOf, placed}
 
 abbrev pub Output : Type 0
 Output = Compiled × List ℕ
@@ -34,11 +31,6 @@ handed b r = (r .0, bytesOf (take (countOf (r .0)) (r .1)) ++ drop (4 * countOf 
 -- compiled into the first words of `result`, as many as the lent bytes have room for, and handed over
 unfoldable pub attempt : List ℕ → List ℕ → List ℕ → Output
 attempt image b result = handed b (compiled (wholeWords image) (wordsOf image) (take (min (length b / 4) (length result)) result))
-
--- the compiler's answer by its three tests
-abbrev pub placed : Bool → List ℕ → List ℕ → Output
-placed f ws out =
-    pick f (pick (leb (length ws) (length out)) (Written (length ws), ws ++ drop (length ws) out) (Refused 16 0, out)) (Refused 15 0, out)
 
 count-placed : (f : Bool) (ws out : List ℕ) → countOf (placed f ws out .0) ≤ length out
 count-placed false ws out = omega arith

@@ -12,9 +12,10 @@ ghost use Prim.Native.Nat.{_*_, _/_, _≤_, min};
 ghost use lib.ListN.{length, take, drop, replicate};
 ghost use Rattle.definitions.specs.Bytes.{bytesOf};
 ghost use Rattle.definitions.specs.Checking.{checked};
-ghost use Rattle.definitions.specs.Compiling.{compiled};
 ghost use Rattle.definitions.specs.Host.{checkBytes, compileBytes};
-ghost use Rattle.lent_images.specs.Counts.{countOf, attempt};
+ghost use Rattle.compiler.specs.Compile.{compiledOn};
+ghost use Rattle.compiler.specs.Kept.{countOf};
+ghost use Rattle.lent_images.specs.Counts.{attempt};
 
 pub mod descriptions; // what an image has
 
@@ -79,7 +80,7 @@ pub fn check_bytes(image: &[u8]) -> Checked
 // Compiles the first n words into all words of a slice.
 fn compile_front(words: &[u32], n: usize, whole: bool, result: &mut [u32]) -> Compiled
     requires { ⌜ n ≤ length (now words) ⌝ }
-    ensures { λ r. ⌜ (r, now (result .exit)) ≡ compiled whole (take n (now (words .entry))) (now (result .entry)) ⌝ }
+    ensures { λ r. ⌜ (r, now (result .exit)) ≡ compiledOn whole (take n (now (words .entry))) (now (result .entry)) ⌝ }
 {
     compiler::images::compile(&words[..n], whole, result)
 }
@@ -87,7 +88,7 @@ fn compile_front(words: &[u32], n: usize, whole: bool, result: &mut [u32]) -> Co
 // The same into the first words of a slice, as many as there is room for.
 fn compile_within(words: &[u32], n: usize, whole: bool, result: &mut [u32], room: usize) -> Compiled
     requires { ⌜ (n ≤ length (now words)) × (room ≤ length (now result)) ⌝ }
-    ensures { λ r. ⌜ (r, take room (now (result .exit))) ≡ compiled whole (take n (now (words .entry))) (take room (now (result .entry))) ⌝ }
+    ensures { λ r. ⌜ (r, take room (now (result .exit))) ≡ compiledOn whole (take n (now (words .entry))) (take room (now (result .entry))) ⌝ }
 {
     compile_front(words, n, whole, &mut result[..room])
 }
@@ -147,8 +148,11 @@ fn compile_long(image: &[u8], out: &mut [u8]) -> Compiled
     compile_with(image, out, &mut words, &mut result)
 }
 
+// The most words of a short result.
+const SHORT_RESULT: usize = 1024;
+
 // Compiles an image that is lent as bytes into lent bytes. Those past the result stay. A longer image is cut as above. A short one is compiled
-// again with long arrays, where its result was too long for the short one.
+// again with long arrays where its result was too long for the short one, but not for the output.
 pub fn compile_bytes(image: &[u8], out: &mut [u8]) -> Compiled
     ensures { λ r. ⌜ (r, now (out .exit)) ≡ compileBytes (now (image .entry)) (now (out .entry)) ⌝ }
 {
@@ -157,6 +161,9 @@ pub fn compile_bytes(image: &[u8], out: &mut [u8]) -> Compiled
     }
     if SHORT < image.len() {
         return compile_long(image, out);
+    }
+    if out.len() / 4 <= SHORT_RESULT {
+        return compile_short(image, out);
     }
     match compile_short(image, out) {
         Compiled::Written(count) => Compiled::Written(count),

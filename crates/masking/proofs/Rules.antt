@@ -16,7 +16,7 @@ use Rattle.copying.specs.Copy.{Copied, spot, copied, copiedArguments}
 use Rattle.copying.specs.Laws.{copied-got, arguments-got}
 use Rattle.copying.specs.Runs.{word-copy, run-copy, copy-run, copy-copy}
 use Rattle.copying.specs.declared.Spot.{Spot}
-use Rattle.masking.specs.Forms.{actOf, secretContext, prefix, oldVariable, oldCell, selectedWords, valued, assigned}
+use Rattle.masking.specs.Forms.{actOf, secretContext, prefix, oldVariable, oldCell, selectedWords, assigned}
 use Rattle.masking.specs.Forms.{indexed, keptCell, stored, returned, conditioned, callHead, called}
 use Rattle.masking.specs.declared.Act.{Act}
 use Rattle.masking.specs.declared.Call.{Call}
@@ -116,41 +116,37 @@ pub ruleset act·rules = (act-both, act-arm, act-live)
 
 -- ---- with an expression that was read
 
-valued-got : (first head : ℕ) (a : Act) (o : ℕ) (out : List ℕ) (x : Parse Expression) (e : Expression) (n : ℕ) → x ≡ got e n
-    → valued first head a o out x ≡ spot n (writes o out (prefix (secretContext a) head (actOf a) ++ expressionWords (moved first e)))
-unfolding valued
-valued-got first head a o out x e n q = rw q
+-- a value behind the word of an operator and the act
+module _ (first head : ℕ) (a : Act) (o : ℕ) (out : List ℕ) (x : Parse Expression) (e : Expression) (n : ℕ) (q : x ≡ got e n) where
+  value-on : (p : ℕ) (t : List ℕ) (r : Copied) → _≡_ {A = Output} (p, t) (writes o out (prefix (secretContext a) head (actOf a)))
+      → r ≡ copied first p t x → r ≡ spot n (writes o out (prefix (secretContext a) head (actOf a) ++ expressionWords (moved first e)))
+  value-on p t r f g =
+      run-copy o out p t (prefix (secretContext a) head (actOf a)) (expressionWords (moved first e)) n r f (g ∙ copied-got first p t x e n q)
 
 module _ (first : ℕ) (a : Act) (o : ℕ) (out : List ℕ) (x : Parse Expression) (ok-x : ok x ≡ true) where
-  pub value-on : (head p : ℕ) (t : List ℕ) (r : Spot) (u : List ℕ) → _≡_ {A = Output} (p, t) (writes o out (prefix (secretContext a) head (actOf a)))
-      → _≡_ {A = Copied} (r, u) (copied first p t x) → _≡_ {A = Copied} (r, u) (valued first head a o out x)
-  value-on head p t r u e f =
-      let (b, n, q) = got-ok x ok-x in
-      run-copy o out p t (prefix (secretContext a) head (actOf a)) (expressionWords (moved first b)) n (r, u) e (f ∙ copied-got first p t x b n q)
-      ∙ sym (valued-got first head a o out x b n q)
-
-  module _ (w p : ℕ) (t : List ℕ) (v : Spot) (t2 : List ℕ) (r : ℕ) (u : List ℕ) (e : _≡_ {A = Output} (p, t) (write o out w)) where
-    pub assign-on : (y : ℕ) → w ≡ statementWordWith 0 y → _≡_ {A = Copied} (v, t2) (valued first (wordWith 14 0) a p t x)
+  module _ (w p : ℕ) (t : List ℕ) (m : ℕ) (t1 : List ℕ) (v : Spot) (t2 : List ℕ) (r : ℕ) (u : List ℕ)
+      (e : _≡_ {A = Output} (p, t) (write o out w)) (f : _≡_ {A = Copied} (v, t2) (copied first m t1 x)) where
+    pub assign-on : (y : ℕ) → w ≡ statementWordWith 0 y → _≡_ {A = Output} (m, t1) (writes p t (prefix (secretContext a) (wordWith 14 0) (actOf a)))
         → _≡_ {A = Output} (r, u) (writes (v .o) t2 (oldVariable (secretContext a) y))
         → _≡_ {A = Copied} (record { at = v .at; o = r }, u) (assigned first y a o out x)
     unfolding assigned
-    assign-on y hw f g =
+    assign-on y hw d g =
         let (b, n, q) = got-ok x ok-x in
         word-copy o out p t (statementWordWith 0 y) _ n (record { at = v .at; o = r }, u) (made o out p t (statementWordWith 0 y) w hw e)
         (copy-run p t v t2 (prefix (secretContext a) (wordWith 14 0) (actOf a) ++ expressionWords (moved first b)) n
-        (f ∙ valued-got first (wordWith 14 0) a p t x b n q) (oldVariable (secretContext a) y) r u g)
+        (value-on first (wordWith 14 0) a p t x b n q m t1 (v, t2) d f) (oldVariable (secretContext a) y) r u g)
         ∙ ap (λ ws. spot n (writes o out ws)) (assign-words (secretContext a) (actOf a) (moved first b) y)
         ∙ ap (λ z. assigned first y a o out z) (sym q)
 
-    pub condition-on : (k : ℕ) → w ≡ statementWordWith 0 k → _≡_ {A = Copied} (v, t2) (valued first (wordWith 13 13) a p t x)
+    pub condition-on : (k : ℕ) → w ≡ statementWordWith 0 k → _≡_ {A = Output} (m, t1) (writes p t (prefix (secretContext a) (wordWith 13 13) (actOf a)))
         → _≡_ {A = Output} (r, u) (writes (v .o) t2 (statementWords (assign (k + 1) (under (secretContext a) (actOf a) (unary 0 0 (variable 0 k))))))
         → _≡_ {A = Copied} (record { at = v .at; o = r }, u) (conditioned first k a o out x)
     unfolding conditioned
-    condition-on k hw f g =
+    condition-on k hw d g =
         let (b, n, q) = got-ok x ok-x in
         word-copy o out p t (statementWordWith 0 k) _ n (record { at = v .at; o = r }, u) (made o out p t (statementWordWith 0 k) w hw e)
         (copy-run p t v t2 (prefix (secretContext a) (wordWith 13 13) (actOf a) ++ expressionWords (moved first b)) n
-        (f ∙ valued-got first (wordWith 13 13) a p t x b n q) _ r u g)
+        (value-on first (wordWith 13 13) a p t x b n q m t1 (v, t2) d f) _ r u g)
         ∙ ap (λ ws. spot n (writes o out (ws ++ statementWords (assign (k + 1) (under (secretContext a) (actOf a) (unary 0 0 (variable 0 k)))))))
         (under-words (secretContext a) (actOf a) (moved first b) k)
         ∙ ap (λ z. conditioned first k a o out z) (sym q)
@@ -213,14 +209,15 @@ module _ (first l : ℕ) (image : List ℕ) (at c o : ℕ) (out : List ℕ) (i :
   pub value-read : ExpressionRead l image (endOf (readExpression l image at)) → ExpressionRead l image (i .at)
   value-read f = rw index-end f
 
-  pub store-on : (a : Act) (v : Spot) (t2 : List ℕ) (r : ℕ) (u : List ℕ) → ok (readExpression l image at) ≡ true
+  pub store-on : (a : Act) (p : ℕ) (t1 : List ℕ) (v : Spot) (t2 : List ℕ) (r : ℕ) (u : List ℕ) → ok (readExpression l image at) ≡ true
       → ok (readExpression l image (endOf (readExpression l image at))) ≡ true
-      → _≡_ {A = Copied} (v, t2) (valued first (wordWith 14 0) a (i .o) t (readExpression l image (i .at)))
+      → _≡_ {A = Output} (p, t1) (writes (i .o) t (prefix (secretContext a) (wordWith 14 0) (actOf a)))
+      → _≡_ {A = Copied} (v, t2) (copied first p t1 (readExpression l image (i .at)))
       → _≡_ {A = Output} (r, u) (keptCell (secretContext a) first c (v .o) t2 (readExpression l image at))
       → _≡_ {A = Copied} (record { at = v .at; o = r }, u)
       (stored first c a o out (readExpression l image at) (readExpression l image (endOf (readExpression l image at))))
   unfolding indexed stored keptCell
-  store-on a v t2 r u ok-x ok-y f g =
+  store-on a p t1 v t2 r u ok-x ok-y d f g =
       let (j, n, q) = got-ok (readExpression l image at) ok-x in
       let (b, m, s) = got-ok (readExpression l image (endOf (readExpression l image at))) ok-y in
       let h : readExpression l image (i .at) ≡ got b m = ap (λ z. readExpression l image z) index-end ∙ s in
@@ -229,7 +226,7 @@ module _ (first l : ℕ) (image : List ℕ) (at c o : ℕ) (out : List ℕ) (i :
       copy-run o out v t2 _ m
       (copy-copy o out i t (statementWordWith 1 c ∷ expressionWords (moved first j)) n k
       (prefix (secretContext a) (wordWith 14 0) (actOf a) ++ expressionWords (moved first b)) m (v, t2)
-      (f ∙ valued-got first (wordWith 14 0) a (i .o) t (readExpression l image (i .at)) b m h))
+      (value-on first (wordWith 14 0) a (i .o) t (readExpression l image (i .at)) b m h p t1 (v, t2) d f))
       (oldCell (secretContext a) c (moved first j)) r u (g ∙ ap (λ z. keptCell (secretContext a) first c (v .o) t2 z) q)
       ∙ ap (λ ws. spot m (writes o out ws)) (store-words (secretContext a) c (moved first j) (actOf a) (moved first b))
       ∙ ap (λ (z : Parse Expression). stored first c a o out z (got b m)) (sym q)

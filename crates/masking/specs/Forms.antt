@@ -43,11 +43,6 @@ oldCell false a i = []
 abbrev pub selectedWords : ℕ → Expression → ℕ → List ℕ
 selectedWords y a v = statementWordWith 0 y ∷ (wordWith 14 0 ∷ (expressionWords a ++ (v ∷ (wordWith 10 y ∷ []))))
 
--- a value behind a first word and the act
-unfoldable pub valued : ℕ → ℕ → Act → ℕ → List ℕ → Parse Expression → Copied
-valued first head a o out (got e n) = spot n (writes o out (prefix (secretContext a) head (actOf a) ++ expressionWords (moved first e)))
-valued first head a o out (refused n p) = spot 0 (o, out)
-
 -- a masked assignment of a value that was read
 unfoldable pub assigned : ℕ → ℕ → Act → ℕ → List ℕ → Parse Expression → Copied
 assigned first y a o out (got e n) =

@@ -28,7 +28,7 @@ ghost use Rattle.definitions.specs.Compiling.{under};
 ghost use Rattle.laws.specs.Parses.{ok, endOf};
 ghost use Rattle.image_words.specs.Read.{ExpressionRead, PairRead, argumentsAt};
 ghost use Rattle.writer.specs.Writing.{writes};
-ghost use Rattle.masking.specs.Forms.{actOf, secretContext, Bounded, prefix, oldVariable, selectedWords, valued, assigned, indexed, keptCell};
+ghost use Rattle.masking.specs.Forms.{actOf, secretContext, Bounded, prefix, oldVariable, selectedWords, assigned, indexed, keptCell};
 ghost use Rattle.masking.specs.Forms.{stored, returned, conditioned, callHead, called};
 
 // What the act is made of: "the guard, T or E of the innermost secret arm, and LIVE if rc is secret". The context is secret if pc or rc is.
@@ -95,25 +95,6 @@ fn emit_old_variable(out: &mut [u32], o: usize, y: u32, act: Act) -> usize
     o
 }
 
-// A value that was read, behind the word of an operator and the act where the context is secret.
-fn emit_value(
-    image: &[u32],
-    out: &mut [u32],
-    at: usize,
-    o: usize,
-    head: u32,
-    act: Act,
-    first: u32,
-    level: u32,
-) -> Spot
-    requires { ⌜ Bounded act × ExpressionRead level (now image) at ⌝ }
-    ensures { λ r. ⌜ ((r, now (out .exit)) ≡ valued first head act o (now (out .entry)) (readExpression level (now (image .entry)) at))
-        × (at < r .at) × (r .at ≤ length (now (image .entry))) ⌝ }
-{
-    let p = emit_prefix(out, o, head, act);
-    copy_expression(image, out, at, p, first, level)
-}
-
 // y := select(act, value, y), or y := value in a public context.
 pub fn emit_assign(
     image: &[u32],
@@ -130,7 +111,8 @@ pub fn emit_assign(
         × (at < r .at) × (r .at ≤ length (now (image .entry))) ⌝ }
 {
     let p = put(out, o, statement_with(ops::ASSIGN, y));
-    let v = emit_value(image, out, at, p, SELECT_WORD, act, first, level);
+    let m = emit_prefix(out, p, SELECT_WORD, act);
+    let v = copy_expression(image, out, at, m, first, level);
     let n = v.at;
     let q = v.o;
     let r = emit_old_variable(out, q, y, act);
@@ -241,7 +223,8 @@ pub fn emit_store(
     let i = emit_store_index(image, out, at, o, a, first, level);
     let m = i.at;
     let q = i.o;
-    let v = emit_value(image, out, m, q, SELECT_WORD, act, first, level);
+    let p = emit_prefix(out, q, SELECT_WORD, act);
+    let v = copy_expression(image, out, m, p, first, level);
     let n = v.at;
     let u = v.o;
     let r = emit_old_cell(image, out, at, u, a, act, first, level);
@@ -275,7 +258,8 @@ pub fn emit_condition(
         × (at < r .at) × (r .at ≤ length (now (image .entry))) ⌝ }
 {
     let p = put(out, o, statement_with(ops::ASSIGN, k));
-    let c = emit_value(image, out, at, p, AND_WORD, act, first, level);
+    let m = emit_prefix(out, p, AND_WORD, act);
+    let c = copy_expression(image, out, at, m, first, level);
     let n = c.at;
     let q = c.o;
     let r = emit_negation(out, q, k, act);

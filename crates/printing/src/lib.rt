@@ -6,7 +6,7 @@ ghost use Prim.Native.Nat.{_+_, _*_, _<_, _≤_};
 ghost use lib.ListN.{length, getD, take, drop};
 ghost use lib.Seq.{paste};
 ghost use Rattle.definitions.specs.Bytes.{wordsOf};
-ghost use Rattle.lent_images.specs.Counts.{countOf};
+ghost use Rattle.compiler.specs.Kept.{countOf};
 ghost use Rattle.printing.specs.Text.{hexDigit, wordLine, listing, decimalText, refusalLine, answerText, printed};
 
 // The character of a hexadecimal digit.

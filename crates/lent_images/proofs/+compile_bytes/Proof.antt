@@ -2,10 +2,10 @@
 use mathlib.Core.Path.{_∙_, ap}
 use mathlib.Core.List.{List}
 use native.Mathlib.Omega.{arith}
-use lib.ListN.{length, replicate}
+use lib.ListN.{length, length-replicate, replicate}
 use Rattle.definitions.specs.Host.{compileBytes}
 use Rattle.requests.specs.FirstBytes.{first-length, first-shorter, first-compiled}
-use Rattle.lent_images.proofs.Rules.{attempt-refused, not-16, written-not, other-not}
+use Rattle.lent_images.proofs.Rules.{attempt-equal, attempt-refused, not-16, written-not, other-not}
 use borrow.Author.Needs.{needs}
 use Prim.Native.Nat.{ℕ, _<_}
 use borrow.Fn.Kinds.{In}
@@ -41,15 +41,18 @@ compile-bytes-answers t = compile-bytes-lts.spec (compile-bytes-callees t) (comp
     (λ c. search needs)  -- same-length-2
     (λ c. search needs)  -- returns-2
     (λ c κs. search needs)  -- compile-short-requires
+    (λ c. search needs)  -- same-length-3
+    (λ c. (c .before .before .compile-short .ensures) ∙ attempt-equal (c .before .before .before .before .before .before .before .before .before .args .image .now) (c .before .before .before .before .before .before .before .before .before .args .out .now) (replicate 1024 0) (λ i. omega (arith, (c .before .before .before .before .before .before .before .slice-known .given) i)) (omega (arith, c .before .before .before .before .if3 .taken, length-replicate {A = ℕ} 1024 0)))  -- returns-3
+    (λ c κs. search needs)  -- compile-short-requires-2
     (λ c. search needs)  -- enum-known-count
     (λ c. search needs)  -- enum-known-number
     (λ c κs. search needs)  -- compile-long-requires-2
-    (λ c. search needs)  -- same-length-3
-    (λ c. (c .before .before .compile-long2 .ensures) ∙ ap (λ (x : List ℕ). compileBytes (c .before .before .before .before .before .before .before .before .before .before .before .before .before .before .before .before .args .image .now) x) (attempt-refused (c .before .before .before .before .before .before .before .before .before .before .before .before .before .before .before .before .args .image .now) (c .before .before .before .before .before .before .before .before .before .before .before .before .before .before .before .before .args .out .now) (replicate 1024 0) (λ i. omega (arith, (c .before .before .before .before .before .before .before .before .before .before .before .before .before .before .slice-known .given) i)) _ _ (c .before .before .before .before .before .before .before .before .before .before .compile-short .ensures) _ _ (c .before .before .before .before .before .before .number .given .1)))  -- returns-3
     (λ c. search needs)  -- same-length-4
-    (λ c. not-16 (c .before .before .before .before .before .before .before .before .before .before .before .args .image .now) (c .before .before .before .before .before .before .before .before .before .before .before .args .out .now) (replicate 1024 0) (λ i. omega (arith, (c .before .before .before .before .before .before .before .before .before .slice-known .given) i)) _ _ (rw (c .before .count .given .1) at (c .before .before .before .before .before .compile-short .ensures)) (written-not _))  -- returns-4
+    (λ c. (c .before .before .compile-long2 .ensures) ∙ ap (λ (x : List ℕ). compileBytes (c .before .before .before .before .before .before .before .before .before .before .before .before .before .before .before .before .before .args .image .now) x) (attempt-refused (c .before .before .before .before .before .before .before .before .before .before .before .before .before .before .before .before .before .args .image .now) (c .before .before .before .before .before .before .before .before .before .before .before .before .before .before .before .before .before .args .out .now) (replicate 1024 0) (λ i. omega (arith, (c .before .before .before .before .before .before .before .before .before .before .before .before .before .before .before .slice-known .given) i)) _ _ (c .before .before .before .before .before .before .before .before .before .before .compile-short2 .ensures) _ _ (c .before .before .before .before .before .before .number .given .1)))  -- returns-4
     (λ c. search needs)  -- same-length-5
-    (λ c. not-16 (c .before .before .before .before .before .before .before .before .before .before .before .before .args .image .now) (c .before .before .before .before .before .before .before .before .before .before .before .before .args .out .now) (replicate 1024 0) (λ i. omega (arith, (c .before .before .before .before .before .before .before .before .before .before .slice-known .given) i)) _ _ (rw (c .before .before .number .given .1) at (c .before .before .before .before .before .before .compile-short .ensures)) (other-not _ _ (c .if3 .left)))  -- returns-5
+    (λ c. not-16 (c .before .before .before .before .before .before .before .before .before .before .before .before .args .image .now) (c .before .before .before .before .before .before .before .before .before .before .before .before .args .out .now) (replicate 1024 0) (λ i. omega (arith, (c .before .before .before .before .before .before .before .before .before .before .slice-known .given) i)) _ _ (rw (c .before .count .given .1) at (c .before .before .before .before .before .compile-short2 .ensures)) (written-not _))  -- returns-5
+    (λ c. search needs)  -- same-length-6
+    (λ c. not-16 (c .before .before .before .before .before .before .before .before .before .before .before .before .before .args .image .now) (c .before .before .before .before .before .before .before .before .before .before .before .before .before .args .out .now) (replicate 1024 0) (λ i. omega (arith, (c .before .before .before .before .before .before .before .before .before .before .before .slice-known .given) i)) _ _ (rw (c .before .before .number .given .1) at (c .before .before .before .before .before .before .compile-short2 .ensures)) (other-not _ _ (c .if4 .left)))  -- returns-6
 
 pub +compile-bytes-spec : {M : Type 1} → statement M
 +compile-bytes-spec = close μ-compile-bytes compile-bytes-answers

@@ -7,6 +7,7 @@ use Rattle.masking.proofs.emit_condition.Tie as tie
 pub emit-condition-spec : {M : Type 1} → statement M
 emit-condition-spec = let answers = tie.spec
     (λ c κs. search needs) (λ c κs. search needs)  -- statement-with-requires, put-requires
-    (λ c κs. search needs) (λ c κs. search needs) (λ c. search needs)  -- emit-value-requires, emit-negation-requires, same-length
+    (λ c κs. search needs) (λ c κs. search needs) (λ c κs. search needs)  -- emit-prefix-requires, copy-expression-requires, emit-negation-requires
+    (λ c. search needs)  -- same-length
     (λ c. search (condition-on, needs))  -- returns
     in tie.close answers

@@ -3,7 +3,7 @@ use Prim.Native.Nat.{ℕ, _≤_, _-_}
 use native.Mathlib.Omega.{arith}
 use lib.ListN.{length}
 use Rattle.image_words.specs.Skipping.{Row}
-use Rattle.image_words.proofs.SkipRules.{skip-within, skip-count, skip-room, skip-turn, skip-done}
+use Rattle.image_words.proofs.SkipRules.{skip-within, raw-turn, raw-room, other-turn, other-room, skip-done}
 use borrow.Author.Needs.{needs}
 use Rattle.image_words.proofs.skipping.skip.Statement.{statement}
 use Rattle.image_words.proofs.skipping.skip.Tie as tie
@@ -23,32 +23,14 @@ skip-spec = let answers = tie.spec Inv-loop μ-loop
     -- shared-slice-read-kind
     (λ c. skip-within _ _ _ _ _ (c .before .before .before .before .pre) (c .before .before .loop .inv) (c .before .loop-test
     .taken))
-    (λ c κs. search needs) (λ c. search needs) (λ c κs. search needs)  -- kind-requires, sub-left, operand-count-requires
-    -- add-left
-    (λ c. omega (
-      arith,
-      skip-count _ _ _ _ _ (c .before .before .before .before .before .before .pre) (c .before .before .before
-          .before .loop .inv) (c .before .before .before .loop-test .taken) _ (c .before .kind .ensures) _ (c .operand-count .ensures
-          .0),
-    ))
-    (λ c κs. search needs)  -- word-count-requires
-    -- add-a
-    (λ c. omega (
-      arith,
-      skip-room _ _ _ _ _ (c .before .before .before .before .before .before .before .pre) (c .before .before
-          .before .before .before .loop .inv) (c .before .before .before .before .loop-test .taken) _ (c .before .before .kind
-          .ensures) _ (c .before .operand-count .ensures .0) _ (c .word-count .ensures .0),
-    ))
-    -- loop-less
-    (λ c. omega (
-      arith,
-      skip-within _ _ _ _ _ (c .before .before .before .before .before .before .before .pre) (c .before .before
-          .before .before .before .loop .inv) (c .before .before .before .before .loop-test .taken),
-      c .word-count .ensures .1,
-    ))
-    -- loop-again
-    (λ c. skip-turn _ _ _ _ _ (c .before .before .before .before .before .before .before .pre) (c .before .before .before .before
-    .before .loop .inv) (c .before .before .before .before .loop-test .taken) _ (c .before .before .kind .ensures) _ (c .before
-    .operand-count .ensures .0) _ (c .word-count .ensures .0))
+    (λ c κs. search needs) (λ c. search needs)  -- kind-requires, sub-left
+    (λ c. omega (arith, raw-room _ _ _ _ _ (c .before .before .before .before .before .before .pre) (c .before .before .before .before .loop .inv) (c .before .before .before .loop-test .taken) _ (c .before .kind .ensures) (c .if1 .taken)))  -- add-a
+    (λ c. omega (arith, skip-within _ _ _ _ _ (c .before .before .before .before .before .before .pre) (c .before .before .before .before .loop .inv) (c .before .before .before .loop-test .taken)))  -- loop-less
+    (λ c. raw-turn _ _ _ _ _ (c .before .before .before .before .before .before .pre) (c .before .before .before .before .loop .inv) (c .before .before .before .loop-test .taken) _ (c .before .kind .ensures) (c .if1 .taken))  -- loop-again
+    (λ c. search needs) (λ c κs. search needs)  -- sub-left-2, operand-count-requires
+    (λ c. omega (arith, other-room _ _ _ _ _ (c .before .before .before .before .before .before .before .pre) (c .before .before .before .before .before .loop .inv) (c .before .before .before .before .loop-test .taken) _ (c .before .before .kind .ensures) (c .before .if1 .left) _ (c .operand-count .ensures .0)))  -- add-left
+    (λ c. omega (arith, other-room _ _ _ _ _ (c .before .before .before .before .before .before .before .pre) (c .before .before .before .before .before .loop .inv) (c .before .before .before .before .loop-test .taken) _ (c .before .before .kind .ensures) (c .before .if1 .left) _ (c .operand-count .ensures .0)))  -- add-a-2
+    (λ c. omega (arith, skip-within _ _ _ _ _ (c .before .before .before .before .before .before .before .pre) (c .before .before .before .before .before .loop .inv) (c .before .before .before .before .loop-test .taken)))  -- loop-less-2
+    (λ c. other-turn _ _ _ _ _ (c .before .before .before .before .before .before .before .pre) (c .before .before .before .before .before .loop .inv) (c .before .before .before .before .loop-test .taken) _ (c .before .before .kind .ensures) (c .before .if1 .left) _ (c .operand-count .ensures .0))  -- loop-again-2
     (λ c. skip-done _ _ _ _ _ (c .before .before .before .pre) (c .before .loop .inv) (c .loop-test .left))  -- returns
     in tie.close answers
