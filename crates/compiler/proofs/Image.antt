@@ -15,7 +15,7 @@ use Rattle.definitions.specs.Compiling.{compiledProcedures, compiledImage, fitL
 use Rattle.laws.specs.ImageIn.{imageIn, proceduresIn, image-words, arrays-inside, arrays-part}
 use Rattle.tables.specs.Table.{Known}
 use Rattle.writer.specs.Writing.{Output, write, writes}
-use Rattle.writer.specs.Laws.{writes-on, writes-app, place, place-far, whole}
+use Rattle.writer.specs.Laws.{writes-on, writes-app, place, place-far}
 use Rattle.compiler.specs.Compile.{Sizing, sizing, eachOn, imageOn, answerOn}
 use Rattle.compiler.specs.declared.Sized.{Sized}
 

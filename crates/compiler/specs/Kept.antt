@@ -2,7 +2,7 @@
 use Prim.Native.Nat.{ℕ, _≤_}
 use mathlib.Core.Bool.{Bool, true, false}
 use mathlib.Core.List.{List, _++_}
-use mathlib.Core.Path.{_≡_, refl, sym, ap, _∙_}
+use mathlib.Core.Path.{_≡_, refl, ap}
 use borrow.Author.Tests.{leb-true}
 use lib.Dec.{leb, eqb}
 use lib.ListN.{length, take, drop}
@@ -13,8 +13,8 @@ use Rattle.definitions.specs.Image.{Image}
 use Rattle.definitions.specs.Reading.{Parse, got, refused}
 use Rattle.definitions.specs.Checking.{admitted}
 use Rattle.definitions.specs.Encoding.{imageWords}
-use Rattle.definitions.specs.Compiling.{compiledImage, fitLocals, fits, written, compiledTree, compiled}
-use Rattle.laws.specs.Tests.{and-right}
+use Rattle.definitions.specs.Compiling.{compiledImage, fits, written, compiledTree, compiled}
+use Rattle.laws.specs.Fitting.{words-fit}
 use Rattle.writer.specs.Writing.{writes}
 use Rattle.writer.specs.Laws.{whole}
 use Rattle.compiler.specs.Compile.{answerOn, treeOn, compiledOn}
@@ -48,13 +48,8 @@ unfolding treeOn answerOn compiledTree written
 tree-kept (refused n p) out = refl
 tree-kept (got image n) out = go (eqb (image .form) 0)
   where
-    small : fits (compiledImage image) ≡ true → length (imageWords (compiledImage image)) ≤ 16384
-    small e =
-        leb-true (length (imageWords (compiledImage image))) 16384
-        (and-right (fitLocals (compiledImage image .procedures)) (leb (length (imageWords (compiledImage image))) 16384) e)
-
     go : (s : Bool) → kept (pick s (answerOn image out) (Refused 14 0, out)) ≡ kept (pick s (written (compiledImage image) out) (Refused 14 0, out))
-    go true = placed-kept (fits (compiledImage image)) (imageWords (compiledImage image)) out small
+    go true = placed-kept (fits (compiledImage image)) (imageWords (compiledImage image)) out (words-fit (compiledImage image))
     go false = refl
 
 pub words-kept : (whole : Bool) (image out : List ℕ) → kept (compiledOn whole image out) ≡ kept (compiled whole image out)

@@ -1,15 +1,15 @@
 -- Document 02, wish 1: what reading gives where the largest level is another one. With fewer levels an image is read as with more, or
 -- reading stops with 5 at a word that the reading with more levels passes. Assumes nothing.
-use mathlib.Core.Path.{_≡_, refl, sym, ap, _∙_}
-use mathlib.Core.Bool.{Bool, true, false, _&&_}
-use mathlib.Core.List.{List, [], _∷_}
+use mathlib.Core.Path.{_≡_, refl}
+use mathlib.Core.Bool.{Bool, true, false}
+use mathlib.Core.List.{List}
 use Prim.Native.Nat.{ℕ, zero, suc, _+_, _≤_, _<_}
 use native.Mathlib.Omega.{arith}
-use borrow.Author.Tests.{leb-true, leb-false}
-use lib.Dec.{leb, eqb}
-use lib.ListN.{length, getD, set, replicate}
+use borrow.Author.Tests.{leb-false}
+use lib.Dec.{leb}
+use lib.ListN.{length, getD}
 use Rattle.definitions.specs.Choice.{pick}
-use Rattle.definitions.specs.Image.{payloadOf, blockWord, calledOf, resultOf, statementWord, expressionWord, rawWord}
+use Rattle.definitions.specs.Image.{payloadOf, blockWord, calledOf, statementWord, expressionWord, rawWord}
 use Rattle.definitions.specs.Image.{Expression, constant, Statement, Block}
 use Rattle.definitions.specs.Reading.{Parse, got, refused, Reader, andThen, onWord, expressionAt, statementAt}
 use Rattle.definitions.specs.Reading.{readExpression, readArguments, readStatement, readStatements, readBlock}

@@ -1,7 +1,7 @@
 -- Document 02, wish 1: "Every image within the new limits keeps its answers." Assumes nothing.
-use mathlib.Core.Path.{_≡_, refl, sym, ap, _∙_}
+use mathlib.Core.Path.{_≡_, refl, ap, _∙_}
 use mathlib.Core.Bool.{Bool, true, false, _&&_}
-use mathlib.Core.List.{List, [], _∷_}
+use mathlib.Core.List.{List, _∷_}
 use Prim.Native.Nat.{ℕ, zero, suc, _+_, _≤_, _<_}
 use native.Mathlib.Omega.{arith}
 use lib.Dec.{leb, eqb}
@@ -9,7 +9,7 @@ use lib.ListN.{length, getD, set, replicate}
 use Rattle.definitions.specs.Choice.{pick}
 use Rattle.definitions.specs.declared.Checked.the-variants.{Refused}
 use Rattle.definitions.specs.Image.{formOf, arraysOf, proceduresOf, headerWord, largestImage, largestLevel, modeOf, parametersOf}
-use Rattle.definitions.specs.Image.{localsOf, procedureWord, typeWord, arrayWord, arrayLength, Block, Procedure, Image}
+use Rattle.definitions.specs.Image.{localsOf, procedureWord, typeWord, arrayWord, arrayLength, Procedure, Image}
 use Rattle.definitions.specs.Reading.{Parse, got, refused, andThen, onWord, readBlock, readTypes, readArrays, readProcedure}
 use Rattle.definitions.specs.Reading.{readProcedures, readRest, readImage}
 use Rattle.definitions.specs.Checking.{withoutFault, verdict, admitted, checked}

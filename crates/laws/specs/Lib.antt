@@ -3,6 +3,7 @@ pub mod Cells
 pub mod Deeper
 pub mod ExpressionInversion
 pub mod Faultless
+pub mod Fitting
 pub mod FormerLevels
 pub mod ImageIn
 pub mod Later

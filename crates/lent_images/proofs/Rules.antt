@@ -14,13 +14,13 @@ use Rattle.definitions.specs.Image.{Image}
 use Rattle.definitions.specs.Reading.{Parse, got, refused}
 use Rattle.definitions.specs.Checking.{admitted, checked}
 use Rattle.definitions.specs.Encoding.{imageWords}
-use Rattle.definitions.specs.Compiling.{compiledImage, fitLocals, fits, written, compiledTree, compiled}
+use Rattle.definitions.specs.Compiling.{compiledImage, fits, written, compiledTree, compiled}
 use Rattle.definitions.specs.Describing.{description, describedTree, described}
 use Rattle.definitions.specs.Host.{wholeWords, checkBytes, compileBytes, describeBytes}
 use Rattle.definitions.specs.declared.Checked.{Checked}
 use Rattle.definitions.specs.declared.Compiled.{Compiled}
 use Rattle.definitions.specs.declared.Compiled.the-variants.{Written, Refused}
-use Rattle.laws.specs.Tests.{and-right}
+use Rattle.laws.specs.Fitting.{words-fit}
 use Rattle.laws.specs.WordsOfBytes.{lent-front, length-wordsOf, lent-wordsOf}
 use Rattle.describing.specs.Sizes.{description-short}
 use Rattle.compiler.specs.Compile.{compiledOn}
@@ -165,10 +165,7 @@ module _ (image b result : List ℕ) (h : Bytes b) where
   pub attempt-long : length result ≡ 16384 → attempt image b result ≡ compileBytes image b
   attempt-long long =
       tried-fair (λ tree n e f g l.
-      let few : length (imageWords (compiledImage tree)) ≤ 16384 =
-      leb-true (length (imageWords (compiledImage tree))) 16384
-      (and-right (fitLocals (compiledImage tree .procedures)) (leb (length (imageWords (compiledImage tree))) 16384) g) in
-      let s = tried-long in omega arith)
+      let few = words-fit (compiledImage tree) g in let s = tried-long in omega arith)
 
   -- where it has as much room as the bytes
   pub attempt-equal : length b / 4 ≤ length result → attempt image b result ≡ compileBytes image b

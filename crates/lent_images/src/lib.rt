@@ -129,13 +129,16 @@ fn compile_with(image: &[u8], out: &mut [u8], words: &mut [u32], result: &mut [u
     hand_over(answer, result, out)
 }
 
+// The most words of a short result.
+const SHORT_RESULT: usize = 1024;
+
 // A short image, whose result is most often short.
 fn compile_short(image: &[u8], out: &mut [u8]) -> Compiled
     requires { ⌜ length (now image) ≤ 2048 ⌝ }
     ensures { λ r. ⌜ (r, now (out .exit)) ≡ attempt (now (image .entry)) (now (out .entry)) (replicate 1024 0) ⌝ }
 {
     let mut words = [0u32; 512];
-    let mut result = [0u32; 1024];
+    let mut result = [0u32; SHORT_RESULT];
     compile_with(image, out, &mut words, &mut result)
 }
 
@@ -147,9 +150,6 @@ fn compile_long(image: &[u8], out: &mut [u8]) -> Compiled
     let mut result = [0u32; 16384];
     compile_with(image, out, &mut words, &mut result)
 }
-
-// The most words of a short result.
-const SHORT_RESULT: usize = 1024;
 
 // Compiles an image that is lent as bytes into lent bytes. Those past the result stay. A longer image is cut as above. A short one is compiled
 // again with long arrays where its result was too long for the short one, but not for the output.

@@ -11,10 +11,10 @@ use Rattle.definitions.specs.Choice.{pick}
 use Rattle.definitions.specs.Image.{Image, procedureAt, cellCount}
 use Rattle.definitions.specs.Checking.{faultOf}
 use Rattle.definitions.specs.Encoding.{imageWords}
-use Rattle.definitions.specs.Compiling.{compiledImage, fitLocals}
+use Rattle.definitions.specs.Compiling.{compiledImage}
 use Rattle.definitions.specs.Requests.{ready, unready, Called, calledOn, servedCall, call}
 use Rattle.statements.specs.Statements.{isRefused, EndAlike, withGuard}
-use Rattle.laws.specs.Tests.{and-left}
+use Rattle.laws.specs.Fitting.{locals-fit}
 use Rattle.laws.specs.Faultless.{no-fault-of}
 use Rattle.readback.specs.Conclusion.{ReadBack}
 use Rattle.readback.specs.Ready.{lentEnough, compiled-ready}
@@ -69,7 +69,7 @@ module _ (whole : Bool) (words out : List ℕ) (n : ℕ) (w : Wrote whole words 
       record {
         well = well-source (w .source) (w .sound .read) (w .sound .source-form);
         clean = no-fault;
-        fits = and-left (fitLocals (compiledImage (w .source) .procedures)) (leb (length (imageWords (compiledImage (w .source)))) 16384) (w .fitting);
+        fits = locals-fit (compiledImage (w .source)) (w .fitting);
       }
 
   -- a call of any procedure with any arguments, on equal cells, under any two budgets and with any two lengths of the lent trace

@@ -4,9 +4,9 @@ use Prim.Native.Nat.{ℕ, _≤_}
 use mathlib.Core.Bool.{Bool, true, false}
 use mathlib.Core.List.{List, [], flatMap}
 use mathlib.Core.Path.{_≡_, refl, ap, sym, _∙_}
-use lib.Dec.{leb, eqb}
+use lib.Dec.{eqb}
 use lib.ListN.{length, replicate}
-use borrow.Author.Tests.{leb-true, eq-eqb}
+use borrow.Author.Tests.{eq-eqb}
 use Rattle.definitions.specs.Choice.{pick}
 use Rattle.definitions.specs.declared.Checked.the-variants.{Accepted}
 use Rattle.definitions.specs.Image.{Block, Procedure, Image, guarded}
@@ -17,9 +17,10 @@ use Rattle.definitions.specs.Labels.{unbounded, blockLabelFaults, procedureLabe
 use Rattle.definitions.specs.Labels.{imageLabelFaults}
 use Rattle.definitions.specs.Checking.{faultOf, withoutFault, verdict, checked, admitted}
 use Rattle.definitions.specs.Encoding.{imageWords}
-use Rattle.definitions.specs.Compiling.{compiledImage, fitLocals, fits}
-use Rattle.laws.specs.Tests.{and-left, and-right, nil-both}
+use Rattle.definitions.specs.Compiling.{compiledImage, fits}
+use Rattle.laws.specs.Tests.{nil-both}
 use Rattle.laws.specs.Faultless.{faultless, no-fault-of}
+use Rattle.laws.specs.Fitting.{locals-fit, words-fit}
 use Rattle.laws.specs.ReadImages.{open-image}
 use Rattle.readback.specs.Like.{LikeBlock, LikeProcedure, LikeProcedures, like-empty, like-next, LikeImage}
 use Rattle.readback.specs.Parses.{Reads, reads, reads-map}
@@ -98,10 +99,8 @@ pub compiled-reads :
     → Reads (LikeImage (compiledImage image)) (length (imageWords (compiledImage image))) (readImage true (imageWords (compiledImage image)))
 compiled-reads image s h =
     back-image (compiledImage image)
-    (image-compiled-fits image s (and-left (fitLocals (compiledImage image .procedures)) (leb (length (imageWords (compiledImage image))) 16384) h))
-    (few (compiledImage image .form) (length (imageWords (compiledImage image))) (compiled-form image)
-    (leb-true (length (imageWords (compiledImage image))) 16384 (and-right (fitLocals (compiledImage image .procedures))
-    (leb (length (imageWords (compiledImage image))) 16384) h)))
+    (image-compiled-fits image s (locals-fit (compiledImage image) h))
+    (few (compiledImage image .form) (length (imageWords (compiledImage image))) (compiled-form image) (words-fit (compiledImage image) h))
   where
     few : (form n : ℕ) → form ≡ 1 → n ≤ 16384 → n ≤ pick (eqb form 0) 4096 16384
     few form n e k = rw e k

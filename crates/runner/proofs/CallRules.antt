@@ -10,7 +10,7 @@ use lib.Seq.{sets}
 use Rattle.definitions.specs.Choice.{pick}
 use Rattle.definitions.specs.Image.{opOf, calledOf, resultOf, largestLevel, formOf, Expression, call}
 use Rattle.definitions.specs.Reading.{got, readExpression, readArguments, readStatement, readBlock}
-use Rattle.definitions.specs.Running.{Evaluated, value, stop, bind, emit, evaluateAll, on, halt, andGo, Outcome, next, back, Given, gave}
+use Rattle.definitions.specs.Running.{Evaluated, value, stop, bind, emit, evaluateAll, on, halt, Given, gave}
 use Rattle.definitions.specs.Running.{received, runStatement, runBlock, frame, finish, Ran as Run, evaluate as valueOf}
 use Rattle.laws.specs.ImageIn.{imageIn}
 use Rattle.laws.specs.Parses.{ok, ok-of}

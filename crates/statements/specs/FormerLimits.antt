@@ -6,8 +6,6 @@ use mathlib.Core.List.{List, [], _∷_}
 use mathlib.Core.Path.{_≡_}
 use lib.Dec.{leb, eqb}
 use lib.ListN.{length, getD, set, replicate}
-use Rattle.definitions.specs.declared.Checked.{Checked}
-use Rattle.definitions.specs.declared.Compiled.{Compiled}
 use Rattle.definitions.specs.Choice.{pick}
 use Rattle.definitions.specs.Image.{formOf, arraysOf, proceduresOf, headerWord, largestImage, modeOf, parametersOf, localsOf}
 use Rattle.definitions.specs.Image.{procedureWord, typeWord, Procedure, Image}
@@ -16,7 +14,7 @@ use Rattle.definitions.specs.Reading.{Parse, got, refused, andThen, onWord, rea
 use Rattle.definitions.specs.Checking.{withoutFault, verdict, checked}
 use Rattle.definitions.specs.Compiling.{compiledTree, compiled}
 use Rattle.definitions.specs.Describing.{describedTree, described}
-use Rattle.definitions.specs.Requests.{Ready, withCells, readyToLoad}
+use Rattle.definitions.specs.Requests.{withCells, readyToLoad}
 use Rattle.statements.specs.Limits.{FitsImage}
 
 -- `readProcedure` to `readImage`, with the largest level by form as it is given

@@ -1,5 +1,5 @@
 -- `image_words::skipping::skip` meets its contract. Assumes nothing.
-use Prim.Native.Nat.{ℕ, _≤_, _-_}
+use Prim.Native.Nat.{ℕ, _-_}
 use native.Mathlib.Omega.{arith}
 use lib.ListN.{length}
 use Rattle.image_words.specs.Skipping.{Row}
