@@ -75,11 +75,12 @@ static void print_trace(const uint8_t *trace, uint64_t count)
         [TINESAGE_TRACE_LOOP_TO] = "loop to",   [TINESAGE_TRACE_INDEX] = "index",
         [TINESAGE_TRACE_DIVIDEND] = "dividend", [TINESAGE_TRACE_DIVISOR] = "divisor",
         [TINESAGE_TRACE_CALL] = "call",         [TINESAGE_TRACE_RETURN] = "return",
+        [TINESAGE_TRACE_SHIFT_COUNT] = "shift count",
     };
     for (size_t i = 0; i < count / 2; i++) {
         struct tinesage_trace_entry e = tinesage_read_entry(trace, i);
         printf("    %08X %08X  %s at word %u\n", (unsigned)tinesage_word(trace, 2 * i), (unsigned)e.value,
-               kinds[e.kind], (unsigned)e.place);
+               e.kind < sizeof kinds / sizeof *kinds ? kinds[e.kind] : "other", (unsigned)e.place);
     }
 }
 

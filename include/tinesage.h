@@ -39,10 +39,10 @@ extern "C" {
 #endif
 
 /* The version of this interface. A new major number may break a host, a new minor number adds. */
-#define TINESAGE_VERSION_MAJOR 1
-#define TINESAGE_VERSION_MINOR 2
+#define TINESAGE_VERSION_MAJOR 2
+#define TINESAGE_VERSION_MINOR 0
 #define TINESAGE_VERSION_PATCH 0
-#define TINESAGE_VERSION "1.2.0"
+#define TINESAGE_VERSION "2.0.0"
 
 /* ---- sizes ---- */
 
@@ -115,8 +115,9 @@ enum tinesage_trace_kind {
     TINESAGE_TRACE_INDEX = 4,     /* the index of a cell that is read or written */
     TINESAGE_TRACE_DIVIDEND = 5,
     TINESAGE_TRACE_DIVISOR = 6,
-    TINESAGE_TRACE_CALL = 7,  /* the number of the procedure called */
-    TINESAGE_TRACE_RETURN = 8 /* 0 */
+    TINESAGE_TRACE_CALL = 7,       /* the number of the procedure called */
+    TINESAGE_TRACE_RETURN = 8,     /* 0 */
+    TINESAGE_TRACE_SHIFT_COUNT = 9 /* the count of a shift or rotation, before the modulo */
 };
 
 /* ---- words, answers and trace entries in lent bytes ---- */

@@ -52,6 +52,9 @@ static void entry_cases(void)
     struct tinesage_trace_entry e = tinesage_read_entry(trace, 1);
     expect("read_entry: kind, place, value",
            e.kind == TINESAGE_TRACE_INDEX && e.place == 0xABCDEF1 && e.value == 0x87654321);
+    tinesage_put_word(trace, 0, 0x9FFFFFFF);
+    e = tinesage_read_entry(trace, 0);
+    expect("read_entry: the last kind, the last place", e.kind == TINESAGE_TRACE_SHIFT_COUNT && e.place == 0xFFFFFFF);
 }
 
 static void version_case(void)
@@ -170,6 +173,22 @@ static void entry_length_cases(void)
     }
 }
 
+/* a shift by 33 goes one place, and 33 is recorded at its word, before the return's entry */
+static void shift_count_case(void)
+{
+    static const uint32_t words[] = {0x10000001, 0x30000000, 0x40000000, 0x50000001,
+                                     0x60040000, 0xD0000006, 0x70000003, 0x70000021};
+    uint8_t trace[2 * TINESAGE_TRACE_ENTRY], answer[TINESAGE_ANSWER];
+    count = 0;
+    for (size_t i = 0; i < 8; i++)
+        push(words[i]);
+    tinesage_call(image, 4 * count, NULL, 0, 0, NULL, 0, 1, trace, sizeof trace, answer, sizeof answer);
+    struct tinesage_answer a = tinesage_read_answer(answer);
+    struct tinesage_trace_entry e = tinesage_read_entry(trace, 0);
+    expect("a shift's count is taken modulo 32", a.status == TINESAGE_DONE && a.result == 6 && a.count == 4);
+    expect("and recorded before that", e.kind == TINESAGE_TRACE_SHIFT_COUNT && e.place == 5 && e.value == 33);
+}
+
 int main(void)
 {
     word_cases();
@@ -178,6 +197,7 @@ int main(void)
     version_case();
     limit_cases();
     entry_length_cases();
+    shift_count_case();
     printf("%u passed, %u failed\n", passed, failed);
     return failed == 0 ? EXIT_SUCCESS : EXIT_FAILURE;
 }

@@ -28,10 +28,10 @@ enum leaf { RETURN, ASSIGN, STORE, CALL, CALL_WITH_ARGUMENTS, LEAVES };
 static const char *const leaf_names[] = {"return", "assign", "store", "call", "call with arguments"};
 
 enum operators { COMPLEMENT, ADD_FIRST, ADD_SECOND, SELECT_CONDITION, SELECT_FIRST, SELECT_SECOND, DIVIDE_FIRST,
-                 DIVIDE_SECOND, INDEX, OPERATORS };
+                 DIVIDE_SECOND, SHIFT_SECOND, INDEX, OPERATORS };
 static const char *const operator_names[] = {"complement",   "add, first",    "add, second", "select, condition",
                                              "select, first", "select, second", "divide, first", "divide, second",
-                                             "index"};
+                                             "shift, second", "index"};
 
 /* what an image is made of: `depth` ifs or fors, the statement in them, and the operators under it */
 struct shape {
@@ -114,6 +114,7 @@ static void push_expression(struct image *image, enum operators operators, uint3
         [SELECT_FIRST] = {0xE0000000, 0x90000001, 0x70000001},
         [DIVIDE_FIRST] = {0xD0000009, 0, 0x70000001},
         [DIVIDE_SECOND] = {0xD0000009, 0x70000001},
+        [SHIFT_SECOND] = {0xD0000006, 0x70000001},
         [INDEX] = {0xB0000000},
     };
     if (level >= last) {

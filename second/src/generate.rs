@@ -2,7 +2,7 @@
 //!
 //! Every line is also answered here, by this program's own driver, so that
 //! later lines can aim at the edge: a budget one step short, a trace slice two
-//! words short, an output slice that just fits.
+//! words short or full at a shift, an output slice that just fits.
 
 use std::io::{self, Write};
 
@@ -381,7 +381,7 @@ impl<W: Write> Generator<W> {
     }
 
     /// A call, and often the same again with a budget or a trace slice that
-    /// ends close to where the first one ended.
+    /// ends close to where the first one ended, or at a shift.
     fn call(&mut self, outline: &Outline) -> io::Result<()> {
         let procedure = self.procedure(outline);
         let parameters = outline.parameters.get(procedure as usize).copied().unwrap_or(1);
@@ -390,7 +390,7 @@ impl<W: Write> Generator<W> {
         let answer = self.send(format!("call {procedure} {budget} {capacity}{arguments}"))?;
         if self.random.chance(30) {
             if let Some((steps, trace)) = steps_and_trace(&answer) {
-                let (budget, capacity) = self.close_allowance(steps, trace);
+                let (budget, capacity) = self.close_allowance(steps, &trace);
                 self.send(format!("call {procedure} {budget} {capacity}{arguments}"))?;
             }
         }
@@ -434,19 +434,30 @@ impl<W: Write> Generator<W> {
         (budget, capacity)
     }
 
-    fn close_allowance(&mut self, steps: u32, trace: u32) -> (u32, u32) {
-        match self.random.below(4) {
+    fn close_allowance(&mut self, steps: u32, trace: &[&str]) -> (u32, u32) {
+        let recorded = trace.len() as u32;
+        match self.random.below(6) {
             0 => ((steps + self.random.below(2)).saturating_sub(1), 1_000),
             1 => (self.random.below(steps + 1), 1_000),
-            2 => (2_000, (trace + self.random.below(3)).saturating_sub(2)),
-            _ => (2_000, self.random.below(trace + 1)),
+            2 => (2_000, (recorded + self.random.below(3)).saturating_sub(2)),
+            3 => (2_000, self.random.below(recorded + 1)),
+            _ => (2_000, self.close_to_shift_count(trace)),
         }
+    }
+
+    /// A length for the trace slice that just has room for the count of one of
+    /// the shifts recorded, or just has not.
+    fn close_to_shift_count(&mut self, trace: &[&str]) -> u32 {
+        let counts: Vec<usize> =
+            (0..trace.len()).step_by(2).filter(|at| trace[*at].starts_with('9')).collect();
+        let before = self.random.pick(&counts).unwrap_or(trace.len());
+        before as u32 + self.random.below(3)
     }
 }
 
-/// The steps and the number of trace words in the answer to a call.
-fn steps_and_trace(answer: &str) -> Option<(u32, u32)> {
+/// The steps and the trace words in the answer to a call.
+fn steps_and_trace(answer: &str) -> Option<(u32, Vec<&str>)> {
     let (head, trace) = answer.split_once('|')?;
     let steps = head.split_ascii_whitespace().last()?.parse().ok()?;
-    Some((steps, trace.split_ascii_whitespace().count() as u32))
+    Some((steps, trace.split_ascii_whitespace().collect()))
 }

@@ -61,6 +61,7 @@ enum Entry {
     Divisor = 6,
     Call = 7,
     Return = 8,
+    ShiftCount = 9,
 }
 
 struct Run<'a> {
@@ -248,15 +249,21 @@ impl<'a> Run<'a> {
             Binary::And | Binary::BothTrue => left & right,
             Binary::Or | Binary::EitherTrue => left | right,
             Binary::Xor => left ^ right,
-            // These two take the count modulo 32 by themselves.
-            Binary::ShiftLeft => left.wrapping_shl(right),
-            Binary::ShiftRight => left.wrapping_shr(right),
-            Binary::RotateLeft => left.rotate_left(right % 32),
+            // The first two take the count modulo 32 by themselves.
+            Binary::ShiftLeft => left.wrapping_shl(self.shift_count(right, place)?),
+            Binary::ShiftRight => left.wrapping_shr(self.shift_count(right, place)?),
+            Binary::RotateLeft => left.rotate_left(self.shift_count(right, place)? % 32),
             Binary::Quotient => left / self.divisor(left, right, place)?,
             Binary::Remainder => left % self.divisor(left, right, place)?,
             Binary::Equal => (left == right) as u32,
             Binary::Less => (left < right) as u32,
         })
+    }
+
+    /// Recorded before the modulo.
+    fn shift_count(&mut self, count: u32, place: u32) -> Result<u32, Stopped> {
+        self.entry(Entry::ShiftCount, place, count)?;
+        Ok(count)
     }
 
     fn divisor(&mut self, dividend: u32, divisor: u32, place: u32) -> Result<u32, Stopped> {

@@ -28,10 +28,11 @@ use Rattle.definitions.specs.Compiling.{moved, movedAll, act, masked, under, fo
 use Rattle.definitions.specs.Compiling.{compiledReturn, compiledCall, compiledStatement, closed, compiledTypes}
 use Rattle.definitions.specs.Compiling.{compiledBody, compiledProcedure, compiledProcedures, compiledImage, fitLocals}
 use Rattle.definitions.specs.Compiling.{written, compiledTree, compiled}
-use Rattle.definitions.specs.Running.{emit, inArray, indexAt, divided, operated, evaluate, evaluateAll, tick, passes}
+use Rattle.definitions.specs.Running.{emit, inArray, indexAt, divided, shifted, operated, evaluate, evaluateAll, tick, passes}
 use Rattle.definitions.specs.Running.{taken, received, runStatement, frame, finish, runProcedure}
 use Rattle.definitions.specs.Requests.{withCells, readyToLoad, readyToServe, argumentValues, ended, calledOn}
 use Rattle.definitions.specs.Requests.{servedCall, call}
+use Rattle.statements.specs.FormerTraces.{noShift}
 
 -- A case: an image that the checker refuses; an image that compiles to words; a call of procedure 0 of an image without arrays.
 pub data Case : Type 0 where
@@ -100,13 +101,19 @@ starred =
     ∷ called compiledExample (7 ∷ []) 8 0 (Stopped 22 38 8 0) []
     -- "FFFFFFFF plus 1: 0."
     ∷ called sum [] 100 100 (Done 0 1 2) (0x80000004 ∷ 0x00000000 ∷ [])
-    -- "Rotate by 32: unchanged."
-    ∷ called rotation (0x89ABCDEF ∷ []) 100 100 (Done 0x89ABCDEF 1 2) (0x80000005 ∷ 0x00000000 ∷ [])
+    -- "Rotate by 32: unchanged." Document 02, wish 4: the count is recorded before the modulo, at the D word.
+    ∷ called rotation (0x89ABCDEF ∷ []) 100 100 (Done 0x89ABCDEF 1 4) (0x90000006 ∷ 0x00000020 ∷ 0x80000005 ∷ 0x00000000 ∷ [])
     -- "For from 3 to 3: no pass."
     ∷ called emptyLoop [] 100 100 (Done 5 3 6) (0x20000008 ∷ 0x00000003 ∷ 0x30000008 ∷ 0x00000003 ∷ 0x8000000E ∷ 0x00000000 ∷ [])
     ∷ []
 
+-- Document 02, wish 4: "the example's traces do not move". No word of it shifts, so no call of it has moved (`wish-4` of promises/specs/Promises.antt,
+-- `no-shift-same`).
+pub example-has-no-shift : (noShift example ≡ true) × (noShift compiledExample ≡ true)
+unfolding noShift
+example-has-no-shift = (refl, refl)
+
 -- Every case of the table holds.
 pub starred-hold : AllHold starred
-unfolding applyBinary applyUnary headerWord arrayWord procedureWord typeWord blockWord statementWord expressionWord rawWord placeOf cellCount baseOf readExpression readArguments readStatements readStatement readTypes readProcedure readProcedures readArrays readRest readImage least sortIn markStatement sortFaults argumentFaults statementSortFaults procedureSortFaults proceduresSortFaults imageSortFaults secretIn rcAfter isConstant constantValue boundedIndex labelFaults argumentLabelFaults statementLabelFaults procedureLabelFaults proceduresLabelFaults imageLabelFaults faultOf withoutFault admitted verdict checked flatMap expressionWords argumentWords statementCount statementWords blockWords procedureWords proceduresWords imageWords moved movedAll act masked under followedBy temporaries compiledIf compiledReturn compiledCall compiledStatement closed compiledTypes compiledBody compiledProcedure compiledProcedures compiledImage fitLocals written compiledTree compiled emit inArray indexAt divided operated evaluate evaluateAll tick passes taken received runStatement frame finish runProcedure withCells readyToLoad readyToServe argumentValues ended calledOn servedCall call
+unfolding applyBinary applyUnary headerWord arrayWord procedureWord typeWord blockWord statementWord expressionWord rawWord placeOf cellCount baseOf readExpression readArguments readStatements readStatement readTypes readProcedure readProcedures readArrays readRest readImage least sortIn markStatement sortFaults argumentFaults statementSortFaults procedureSortFaults proceduresSortFaults imageSortFaults secretIn rcAfter isConstant constantValue boundedIndex labelFaults argumentLabelFaults statementLabelFaults procedureLabelFaults proceduresLabelFaults imageLabelFaults faultOf withoutFault admitted verdict checked flatMap expressionWords argumentWords statementCount statementWords blockWords procedureWords proceduresWords imageWords moved movedAll act masked under followedBy temporaries compiledIf compiledReturn compiledCall compiledStatement closed compiledTypes compiledBody compiledProcedure compiledProcedures compiledImage fitLocals written compiledTree compiled emit inArray indexAt divided shifted operated evaluate evaluateAll tick passes taken received runStatement frame finish runProcedure withCells readyToLoad readyToServe argumentValues ended calledOn servedCall call
 starred-hold = (refl, (refl, (refl, (refl, (refl, (refl, (refl, (refl, (refl, (refl, tt))))))))))

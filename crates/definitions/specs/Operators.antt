@@ -1,6 +1,6 @@
 -- "Binary operators, in a fixed table of sorts", and what each operator computes.
 use mathlib.Core.List.{List, [], _∷_}
-use mathlib.Core.Bool.{Bool}
+use mathlib.Core.Bool.{Bool, _||_}
 use Prim.Native.Nat.{ℕ}
 use lib.Bits.{bitAnd, bitOr, bitXor}
 use lib.Dec.{eqb, leb}
@@ -55,6 +55,14 @@ leftPublic op = eqb (operator op .publics) both
 
 abbrev pub rightPublic : ℕ → Bool
 rightPublic op = leb right (operator op .publics)
+
+-- "9 quotient, 10 remainder": the operators that divide
+abbrev pub divides : ℕ → Bool
+divides op = eqb op 9 || eqb op 10
+
+-- "6 shift left, 7 shift right, 8 rotate left": those whose right operand is a count
+abbrev pub shifts : ℕ → Bool
+shifts op = eqb op 6 || eqb op 7 || eqb op 8
 
 -- the operators by number, in the table's order; "3 and, 4 or, 5 xor" go bit by bit
 abbrev pub binaryOperations : List (ℕ → ℕ → ℕ)

@@ -1,12 +1,12 @@
 -- Document 01, "The machine" and "From the machine's state": running a body, its steps, trace entries and stops.
 use Prim.Native.Nat.{ℕ, zero, suc, _+_, _*_, _-_}
-use mathlib.Core.Bool.{Bool, _||_}
+use mathlib.Core.Bool.{Bool}
 use mathlib.Core.List.{List, [], _∷_, _++_}
 use lib.Dec.{ltb, eqb}
 use lib.ListN.{length, getD, set, replicate}
 use Rattle.definitions.specs.Choice.{pick}
 use Rattle.definitions.specs.Arithmetic.{truth}
-use Rattle.definitions.specs.Operators.{applyBinary, applyUnary}
+use Rattle.definitions.specs.Operators.{divides, shifts, applyBinary, applyUnary}
 use Rattle.definitions.specs.Image.{Expression, constant, boolean, variable, cell, unary, binary, select}
 use Rattle.definitions.specs.Image.{Statement, assign, store, conditional, loop, return, call, Block, done}
 use Rattle.definitions.specs.Image.{sequence, arrayLength, baseOf, Procedure, procedureAt}
@@ -65,10 +65,16 @@ divided tracing place op v w trace = bind (emit tracing 5 place v trace)
     (λ _ t₁. bind (emit tracing 6 place w t₁)
     (λ _ t₂. pick (eqb w 0) (stop 24 place t₂) (value (applyBinary op v w) t₂)))
 
--- operators 9 and 10 are divisions. "Shift counts leave none."
+-- Document 02, wish 4: "Operators 6, 7 and 8 record an entry of kind 9 holding the count before the modulo, after both
+-- operands." The count is the value of the right one; the entry, and a 22 there, stand at the operator's word.
+unfoldable pub shifted : {T : Type 0} → Trace T → ℕ → ℕ → ℕ → ℕ → T → Evaluated T ℕ
+shifted tracing place op v w trace =
+    bind (emit tracing 9 place w trace) (λ _ t₁. value (applyBinary op v w) t₁)
+
+-- an operator on its operands' values; one that neither divides nor shifts leaves no entry
 unfoldable pub operated : {T : Type 0} → Trace T → ℕ → ℕ → ℕ → ℕ → T → Evaluated T ℕ
-operated tracing place op v w trace =
-    pick (eqb op 9 || eqb op 10) (divided tracing place op v w) (value (applyBinary op v w)) trace
+operated tracing place op v w trace = pick (divides op) (divided tracing place op v w)
+    (pick (shifts op) (shifted tracing place op v w) (value (applyBinary op v w))) trace
 
 -- over the array words
 module _ {T : Type 0} (tracing : Trace T) (arrays : List ℕ) where

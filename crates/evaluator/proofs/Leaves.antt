@@ -1,15 +1,17 @@
 -- What each way out of the functions below `evaluate` gives. Assumes nothing.
 use mathlib.Core.Path.{_≡_, ap, _∙_}
+use mathlib.Core.Bool.{false}
 use mathlib.Core.List.{List}
 use Prim.Native.Nat.{ℕ, _+_, _≤_, _<_}
 use native.Mathlib.Omega.{arith}
 use borrow.Author.Tests.{lt-ltb, le-ltb, ne-eqb}
 use lib.Dec.{eqb}
-use lib.ListN.{length, getD, length-take}
+use lib.ListN.{getD, length-take}
 use Rattle.definitions.specs.Choice.{pick}
 use Rattle.definitions.specs.Image.{arrayLength}
-use Rattle.definitions.specs.Operators.{applyBinary}
-use Rattle.definitions.specs.Running.{emit, divided, operated}
+use Rattle.definitions.specs.Operators.{divides, shifts, applyBinary}
+use Rattle.definitions.specs.Running.{emit, divided, shifted, operated}
+use Rattle.laws.specs.OperatorTests.{shift-between, division-between, no-division, no-shift}
 use Rattle.tables.specs.Table.{arrayCountIn, arraysIn, baseIn}
 use Rattle.tracing.specs.declared.Value.{Value}
 use Rattle.tracing.specs.declared.Value.the-variants.{Got, Stop}
@@ -87,23 +89,42 @@ module _ (slice : List ℕ) (used p o a b n : ℕ) (r : Value) (slice1 : List �
 
 pub ruleset divide·rules = (divide-full, divide-full2, divide-zero, divide-done)
 
-module _ (p o a b n : ℕ) (t : Log) where
-  pub operate-nine : (r : Value) (slice : List ℕ) → o ≡ 9 → evaluation r slice ≡ until n (divided byteTrace p o a b t)
-      → evaluation r slice ≡ until n (operated byteTrace p o a b t)
-  unfolding operated
-  operate-nine r slice h e = rw (ap (λ (x : ℕ). eqb x 9) h) e
+module _ (slice : List ℕ) (used p o a b n : ℕ) (r : Value) (slice1 : List ℕ)
+    (d : evaluation r slice1 ≡ until n (emit byteTrace 9 p b (log used slice))) where
+  pub shift-full : (k q u : ℕ) → r ≡ Stop k q u → evaluation r slice1 ≡ until n (shifted byteTrace p o a b (log used slice))
+  unfolding shifted evaluation until
+  shift-full k q u s = rw (s, until-stop r slice1 n (emit byteTrace 9 p b (log used slice)) k q u d s)
 
-  pub operate-ten : (r : Value) (slice : List ℕ) → (o ≡ 9 → ⊥) → o ≡ 10 → evaluation r slice ≡ until n (divided byteTrace p o a b t)
-      → evaluation r slice ≡ until n (operated byteTrace p o a b t)
-  unfolding operated
-  operate-ten r slice f h e = rw (ne-eqb o 9 f, ap (λ (x : ℕ). eqb x 10) h) e
+  pub shift-done : (i m u x : ℕ) → r ≡ Got i m u → x ≡ applyBinary o a b → evaluation (Got x m u) slice1 ≡ until n (shifted byteTrace p o a b (log used slice))
+  unfolding shifted evaluation until
+  shift-done i m u x s e = let (y, z) = until-got r slice1 n (emit byteTrace 9 p b (log used slice)) i m u d s in rw (y, z, e)
 
-pub operate-done : (p o a b n x used : ℕ) (slice : List ℕ) → (o ≡ 9 → ⊥) → (o ≡ 10 → ⊥) → x ≡ applyBinary o a b
-    → evaluation (Got x n used) slice ≡ until n (operated byteTrace p o a b (log used slice))
-unfolding operated evaluation until
-operate-done p o a b n x used slice f g e = rw (ne-eqb o 9 f, ne-eqb o 10 g, e)
+module _ (p o a b n : ℕ) where
+  module _ (t : Log) (r : Value) (slice : List ℕ) where
+    pub operate-shift : 6 ≤ o → o < 9 → evaluation r slice ≡ until n (shifted byteTrace p o a b t) → evaluation r slice ≡ until n (operated byteTrace p o a b t)
+    unfolding operated
+    operate-shift h g e = rw (no-division o (λ k. absurd (omega arith)) (λ k. absurd (omega arith)), shift-between o h g) e
 
-pub ruleset operate·rules = (operate-nine, operate-ten, operate-done)
+    pub operate-divide : 9 ≤ o → o < 11 → evaluation r slice ≡ until n (divided byteTrace p o a b t) → evaluation r slice ≡ until n (operated byteTrace p o a b t)
+    unfolding operated
+    operate-divide h g e = rw (division-between o h g) e
+
+  module _ (x used : ℕ) (slice : List ℕ) (e : x ≡ applyBinary o a b) where
+    unrecorded : divides o ≡ false → shifts o ≡ false → evaluation (Got x n used) slice ≡ until n (operated byteTrace p o a b (log used slice))
+    unfolding operated evaluation until
+    unrecorded f g = rw (f, g, e)
+
+    pub operate-below : o < 6 → evaluation (Got x n used) slice ≡ until n (operated byteTrace p o a b (log used slice))
+    operate-below h =
+        unrecorded (no-division o (λ k. absurd (omega arith)) (λ k. absurd (omega arith)))
+        (no-shift o (λ k. absurd (omega arith)) (λ k. absurd (omega arith)) (λ k. absurd (omega arith)))
+
+    pub operate-above : 11 ≤ o → evaluation (Got x n used) slice ≡ until n (operated byteTrace p o a b (log used slice))
+    operate-above h =
+        unrecorded (no-division o (λ k. absurd (omega arith)) (λ k. absurd (omega arith)))
+        (no-shift o (λ k. absurd (omega arith)) (λ k. absurd (omega arith)) (λ k. absurd (omega arith)))
+
+pub ruleset operate·rules = (operate-below, operate-shift, operate-divide, operate-above)
 
 pub choose-zero : (c a b : ℕ) → c ≡ 0 → b ≡ pick (eqb c 0) b a
 choose-zero c a b h = rw h

@@ -8,13 +8,13 @@ use image_words::payload;
 use tables::SIZE;
 use tracing::Value;
 ghost use mathlib.Core.Path.{_≡_};
-ghost use Prim.Native.Nat.{_<_, _≤_};
+ghost use Prim.Native.Nat.{_<_};
 ghost use lib.Dec.{eqb};
 ghost use lib.ListN.{length, getD};
 ghost use Rattle.definitions.specs.Choice.{pick};
 ghost use Rattle.definitions.specs.Image.{kindOf, payloadOf};
 ghost use Rattle.definitions.specs.Reading.{readExpression};
-ghost use Rattle.definitions.specs.Running.{divided, operated};
+ghost use Rattle.definitions.specs.Running.{divided, shifted, operated};
 ghost use Rattle.laws.specs.ImageIn.{imageIn};
 ghost use Rattle.image_words.specs.Read.{ExpressionRead};
 ghost use Rattle.tables.specs.Table.{Known};
@@ -99,7 +99,19 @@ fn divide(
     Value::Got(operators::apply(op, a, b), m, v)
 }
 
-// A binary operator on its operands' values.
+// A shift or rotation: its count is recorded as it is, before the modulo.
+fn shift(trace: &mut [u8], used: usize, place: usize, op: u32, a: u32, b: u32, next: usize) -> Value
+    requires { ⌜ place < 268435456 ⌝ }
+    ensures { λ r. ⌜ evaluation r (now (trace .exit)) ≡ until next (shifted byteTrace place op a b (log used (now (trace .entry)))) ⌝ }
+{
+    let r = tracing::note(trace, used, tracing::SHIFT_COUNT, place, b, next);
+    let Value::Got(_, n, u) = r else {
+        return r;
+    };
+    Value::Got(operators::apply(op, a, b), n, u)
+}
+
+// A binary operator on its operands' values, by where it stands in the table.
 fn operate(
     trace: &mut [u8],
     used: usize,
@@ -112,10 +124,13 @@ fn operate(
     requires { ⌜ place < 268435456 ⌝ }
     ensures { λ r. ⌜ evaluation r (now (trace .exit)) ≡ until next (operated byteTrace place op a b (log used (now (trace .entry)))) ⌝ }
 {
-    if op == operators::OP_QUOTIENT {
-        return divide(trace, used, place, op, a, b, next);
+    if op < operators::OP_SHIFT_LEFT {
+        return Value::Got(operators::apply(op, a, b), next, used);
     }
-    if op == operators::OP_REMAINDER {
+    if op < operators::OP_QUOTIENT {
+        return shift(trace, used, place, op, a, b, next);
+    }
+    if op < operators::OP_EQUAL {
         return divide(trace, used, place, op, a, b, next);
     }
     Value::Got(operators::apply(op, a, b), next, used)

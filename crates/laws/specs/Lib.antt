@@ -10,6 +10,7 @@ pub mod Later
 pub mod Least
 pub mod Levels
 pub mod Listed
+pub mod OperatorTests
 pub mod Parameters
 pub mod Parses
 pub mod Places

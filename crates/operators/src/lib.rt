@@ -4,10 +4,12 @@ ghost use Prim.Native.Nat.{_<_};
 ghost use Rattle.definitions.specs.Arithmetic as arithmetic;
 ghost use Rattle.definitions.specs.Operators.{operator, applyBinary, applyUnary};
 
-// Operators whose operands are recorded.
+// Operators 6 to 8 shift and record their count, 9 and 10 divide and record both operands: the first of each, and the first after them.
+pub const OP_SHIFT_LEFT: u32 = 6;
+
 pub const OP_QUOTIENT: u32 = 9;
 
-pub const OP_REMAINDER: u32 = 10;
+pub const OP_EQUAL: u32 = 11;
 
 // Sorts. A boolean is a word too, 0 for false and 1 for true.
 const WORD: u32 = 0;

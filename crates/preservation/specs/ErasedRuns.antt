@@ -1,19 +1,19 @@
 -- A tree and the same tree without its places run alike to the last sequence, but for the places that stops and trace entries name.
 -- Assumes nothing.
 use mathlib.Core.Path.{_≡_, sym, _∙_, ap}
-use mathlib.Core.Bool.{Bool, true, false, _||_}
+use mathlib.Core.Bool.{Bool, true, false}
 use mathlib.Core.List.{List, [], _∷_}
 use Prim.Native.Nat.{ℕ, zero, suc, _+_, _*_, _-_}
 use lib.Dec.{ltb, eqb}
 use lib.ListN.{length, getD, set, length-append}
 use Rattle.definitions.specs.Choice.{pick}
 use Rattle.definitions.specs.Arithmetic.{truth}
-use Rattle.definitions.specs.Operators.{applyBinary}
+use Rattle.definitions.specs.Operators.{divides, shifts, applyBinary}
 use Rattle.definitions.specs.Image.{arrayLength, Expression, constant, boolean, variable, cell, unary, binary, select}
 use Rattle.definitions.specs.Image.{Statement, assign, store, conditional, loop, return, call, Block, done, sequence}
 use Rattle.definitions.specs.Image.{Procedure, procedureAt}
 use Rattle.definitions.specs.Running.{Trace, traceWords, Evaluated, value, stop, Ran, on, halt, bind, within, andGo}
-use Rattle.definitions.specs.Running.{after, emit, inArray, indexAt, divided, operated, evaluate, evaluateAll, Outcome}
+use Rattle.definitions.specs.Running.{after, emit, inArray, indexAt, divided, shifted, operated, evaluate, evaluateAll, Outcome}
 use Rattle.definitions.specs.Running.{next, back, Given, gave, Callee, Body, tick, passes, taken, received}
 use Rattle.definitions.specs.Running.{runStatement, runBlock, frame, finish, runProcedure}
 use Rattle.preservation.specs.Relations.{Sim, meet, left, right, fail}
@@ -96,12 +96,14 @@ module _ {T U : Type 0} {C : Trace T} {D : Trace U} {Q : T → U → Type 0} (h 
       go x y r false = alikeValue r
 
   alike-operated : (p p′ o v w : ℕ) (t : T) (u : U) → Q t u → AlikeValue Q (operated C p o v w t) (operated D p′ o v w u)
-  unfolding operated
-  alike-operated p p′ o v w t u q = go (eqb o 9 || eqb o 10)
+  unfolding operated shifted
+  alike-operated p p′ o v w t u q = go (divides o) (shifts o)
     where
-      go : (b : Bool) → AlikeValue Q (pick b (divided C p o v w) (value (applyBinary o v w)) t) (pick b (divided D p′ o v w) (value (applyBinary o v w)) u)
-      go true = alike-divided p p′ o v w t u q
-      go false = alikeValue q
+      go : (b c : Bool) → AlikeValue Q (pick b (divided C p o v w) (pick c (shifted C p o v w) (value (applyBinary o v w))) t)
+          (pick b (divided D p′ o v w) (pick c (shifted D p′ o v w) (value (applyBinary o v w))) u)
+      go true c = alike-divided p p′ o v w t u q
+      go false true = alike-bind (alike-emit 9 p p′ w t u q) λ a x y r. alikeValue r
+      go false false = alikeValue q
 
   alike-evaluate : (arrays : List ℕ) (e : Expression) (vs cs : List ℕ) (t : T) (u : U) → Q t u → AlikeValue Q (evaluate C arrays e vs cs t) (evaluate D arrays (erasedExpression e) vs cs u)
   unfolding evaluate erasedExpression

@@ -2,38 +2,31 @@
 -- a fault where it keeps the rules of a secret context. Assumes nothing.
 use mathlib.Core.Path.{_≡_, refl, sym, ap}
 use mathlib.Core.Logic.{_≢_}
-use mathlib.Core.Bool.{Bool, true, false, _&&_, _||_, false≢true, true≢false}
+use mathlib.Core.Bool.{Bool, true, false, _&&_, false≢true, true≢false}
 use mathlib.Core.List.{List, [], _∷_, _++_}
 use Prim.Native.Nat.{ℕ, suc, _+_, _<_}
 use native.Mathlib.Omega.{arith}
 use lib.Dec.{ltb, eqb}
 use lib.ListN.{length, getD}
-use borrow.Author.Tests.{ltb-true, leb-true, leb-false, eqb-true, eqb-false, not-false, lt-ltb}
+use borrow.Author.Tests.{ltb-true, leb-true, leb-false, eqb-false, not-false, lt-ltb}
 use Rattle.definitions.specs.Choice.{pick}
-use Rattle.definitions.specs.Operators.{operator, both as bothOperands, applyBinary, leftPublic}
+use Rattle.definitions.specs.Operators.{divides, shifts, applyBinary, leftPublic}
 use Rattle.definitions.specs.Image.{arrayLength, baseOf, Expression, constant, boolean, variable, cell, unary, binary}
 use Rattle.definitions.specs.Image.{select, placeOf}
 use Rattle.definitions.specs.Sorts.{outside, sortFaults, argumentFaults}
 use Rattle.definitions.specs.Labels.{isConstant, constantValue, unbounded, boundedIndex, labelFaults}
 use Rattle.definitions.specs.Labels.{argumentLabelFaults}
 use Rattle.definitions.specs.Compiling.{renamed, moved, movedAll}
-use Rattle.definitions.specs.Running.{Trace, value, stop, bind, inArray, indexAt, divided, operated, evaluate}
+use Rattle.definitions.specs.Running.{Trace, value, stop, bind, inArray, indexAt, divided, shifted, operated, evaluate}
 use Rattle.definitions.specs.Running.{evaluateAll}
 use Rattle.laws.specs.Tests.{kept, empties}
+use Rattle.laws.specs.OperatorTests.{division-publics}
 use Rattle.preservation.specs.Relations.{SafeValue, sound, SimValue, same, broke, safe-bind, sim-bind}
 use Rattle.preservation.specs.Relations.{sim-value-map, both, emitted}
 
 -- a variable of a for with constant bounds is below its upper bound
 abbrev pub Bounded : List ℕ → ℕ → List ℕ → Type 0
 Bounded bounds first vs = (x : ℕ) → getD bounds x unbounded < 65536 → getD vs (renamed first x) 0 < getD bounds x unbounded
-
--- operators 9 and 10, the divisions, want both operands public
-pub division : (o : ℕ) → (eqb o 9 || eqb o 10) ≡ true → operator o .publics ≡ bothOperands
-division o e = go (eqb o 9) refl e
-  where
-    go : (b : Bool) → eqb o 9 ≡ b → (b || eqb o 10) ≡ true → operator o .publics ≡ bothOperands
-    go true f g = rw (eqb-true o 9 f) refl
-    go false f g = rw (eqb-true o 10 g) refl
 
 -- what a compiled expression comes to in a secret context
 module _ {T : Type 0} (D : Trace T) (arrays : List ℕ) (first : ℕ) (vs cs : List ℕ) where
@@ -69,6 +62,11 @@ module _ {T : Type 0} (D : Trace T) (arrays : List ℕ) (first : ℕ) (vs cs : L
   unfolding divided
   safe-divided p o v w e t = safe-bind (emitted D 5 p v t) λ a u _. safe-bind (emitted D 6 p w u) λ b x _. rw e (sound tt)
 
+  -- a shift is stopped only by a full trace
+  pub safe-shifted : (p o v w : ℕ) (t : T) → SafeValue (λ (_ : ℕ). Unit {0}) (shifted D p o v w t)
+  unfolding shifted
+  safe-shifted p o v w t = safe-bind (emitted D 9 p w t) λ a u _. sound tt
+
 -- what is no constant has the value 0
 nonzero-constant : (e : Expression) → eqb (constantValue e) 0 ≡ false → isConstant e ≡ true
 unfolding constantValue isConstant
@@ -96,15 +94,17 @@ module _ {T : Type 0} (D : Trace T) (types arrays bounds : List ℕ) (first : �
       let v = index-value D arrays first vs cs bounds h (arrayLength (getD arrays a 0)) (short-array (getD arrays a 0)) i b in
       rw (v .1 t) (safe-bind (safe-index D arrays first vs cs a p (v .0) (v .2) t) λ j u _. sound tt)
   safe-value (unary p o f) e t = safe-bind (safe-value f e t) λ v u _. sound tt
-  safe-value (binary p o f g) e t = safe-bind (safe-value f (search empties) t) λ v u _. go v u (eqb o 9 || eqb o 10) refl (safe-value g (search empties) u)
+  safe-value (binary p o f g) e t = safe-bind (safe-value f (search empties) t) λ v u _. go v u (divides o) (shifts o) refl (safe-value g (search empties) u)
     where
-      go : (v : ℕ) (u : T) (b : Bool) → (eqb o 9 || eqb o 10) ≡ b → SafeValue (λ (_ : ℕ). Unit {0}) (evaluate D arrays (moved first g) vs cs u)
-          → SafeValue (λ (_ : ℕ). Unit {0}) (bind (evaluate D arrays (moved first g) vs cs u) (λ w x. pick b (divided D p o v w) (value (applyBinary o v w)) x))
-      go v u true q _ =
+      go : (v : ℕ) (u : T) (b c : Bool) → divides o ≡ b → SafeValue (λ (_ : ℕ). Unit {0}) (evaluate D arrays (moved first g) vs cs u)
+          → SafeValue (λ (_ : ℕ). Unit {0}) (bind (evaluate D arrays (moved first g) vs cs u)
+          (λ w x. pick b (divided D p o v w) (pick c (shifted D p o v w) (value (applyBinary o v w))) x))
+      go v u true _ q _ =
           let k : (leftPublic o && eqb (constantValue g) 0) ≡ false = kept _ 11 (placeOf g) (search empties) in
-          let c : eqb (constantValue g) 0 ≡ false = rw (division o q) at k in
+          let c : eqb (constantValue g) 0 ≡ false = rw (division-publics o q) at k in
           rw (constant-value D arrays first vs cs g (nonzero-constant g c) u) (safe-divided D arrays first vs cs p o v (constantValue g) c u)
-      go v u false q r = safe-bind r λ w x _. sound tt
+      go v u false true q r = safe-bind r λ w x _. safe-shifted D arrays first vs cs p o v w x
+      go v u false false q r = safe-bind r λ w x _. sound tt
   safe-value (select p c f g) e t =
       safe-bind (safe-value c (search empties) t) λ b u _.
       safe-bind (safe-value f (search empties) u) λ v x _.
@@ -146,12 +146,14 @@ module _ {T U : Type 0} (C : Trace T) (D : Trace U) where
       go x y false = same refl
 
   pub sim-operated : (p q o v w : ℕ) (t : T) (u : U) → SimValue (λ i j. i ≡ j) (operated C p o v w t) (operated D q o v w u)
-  unfolding operated
-  sim-operated p q o v w t u = go (eqb o 9 || eqb o 10)
+  unfolding operated shifted
+  sim-operated p q o v w t u = go (divides o) (shifts o)
     where
-      go : (b : Bool) → SimValue (λ i j. i ≡ j) (pick b (divided C p o v w) (value (applyBinary o v w)) t) (pick b (divided D q o v w) (value (applyBinary o v w)) u)
-      go true = sim-divided p q o v w t u
-      go false = same refl
+      go : (b c : Bool) → SimValue (λ i j. i ≡ j) (pick b (divided C p o v w) (pick c (shifted C p o v w) (value (applyBinary o v w))) t)
+          (pick b (divided D q o v w) (pick c (shifted D q o v w) (value (applyBinary o v w))) u)
+      go true c = sim-divided p q o v w t u
+      go false true = sim-bind (both (emitted C 9 p w t) (emitted D 9 q w u)) λ a b x y _. same refl
+      go false false = same refl
 
 module _ {T U : Type 0} (C : Trace T) (D : Trace U) (types arrays marks : List ℕ) (first size : ℕ) (us vs cs : List ℕ) (h : Agree types marks first us vs) where
   -- an expression and its compiled form end alike

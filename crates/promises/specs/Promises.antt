@@ -4,7 +4,7 @@
 -- answer; `Bytes` says that what is lent are bytes. Assumes nothing.
 use Prim.Native.Nat.{ℕ, suc, _+_, _*_, _≤_, _<_}
 use mathlib.Core.Bool.{true}
-use mathlib.Core.List.{List}
+use mathlib.Core.List.{List, [], _∷_, _++_}
 use mathlib.Core.Path.{_≡_}
 use lib.ListN.{length, take, drop}
 use Rattle.definitions.specs.declared.Fault.{Fault}
@@ -20,6 +20,8 @@ use Rattle.definitions.specs.Reading.{refused, readImage}
 use Rattle.definitions.specs.Sorts.{imageSortFaults}
 use Rattle.definitions.specs.Labels.{imageLabelFaults}
 use Rattle.definitions.specs.Compiling.{compiledImage, fitLocals}
+use Rattle.definitions.specs.Operators.{shifts, applyBinary}
+use Rattle.definitions.specs.Running.{traceWords, value, stop, operated}
 use Rattle.definitions.specs.Requests.{Called}
 use Rattle.definitions.specs.Host.{wholeWords, checkBytes, compileBytes, loadBytes, clearBytes, pokeBytes, peekBytes}
 use Rattle.definitions.specs.Host.{callBytes, describeBytes}
@@ -31,9 +33,11 @@ use Rattle.statements.specs.Statements.{answerIn, checkedIn, compiledIn}
 use Rattle.tinesage.specs.Contracts.{Checks, Compiles, Describes, Loads, Clears, Pokes, Peeks, Calls}
 use Rattle.statements.specs.Limits.{FitsImage}
 use Rattle.statements.specs.FormerLimits.{readImageBy, formerReadImage, From, Kept, WithinLimits, SameAnswers}
+use Rattle.statements.specs.FormerTraces.{callBytesBy, formerCallBytes, noShift, OnlyEntriesAdded}
 use Rattle.laws.specs.FormerLevels.{by-image, limits-keep-answers, one-level-more, same-answers}
 use Rattle.readback.specs.Whole.{image-compiled-fits}
 use Rattle.results.specs.WithinLimits.{within-limits}
+use Rattle.results.specs.CountsAdded.{count-recorded, count-stopped, by-operators, only-entries-added, no-shift-same}
 use Rattle.results.specs.Accepted.{accepted-exactly, refused-exactly, reading-number, sort-number, label-number}
 use Rattle.results.specs.Exactly.{loaded-or-not, ready-or-not, cell-or-not, called-or-not, load-refused-exactly, load-is-done}
 use Rattle.results.specs.Exactly.{clear-refused-exactly, clear-is-done, poke-refused-exactly, poke-is-done}
@@ -259,6 +263,43 @@ wish-1 =
       within-limits = λ image. within-limits (wholeWords image) (wordsOf image);
       never-too-deep = λ image tree a source. image-compiled-fits tree
           (record { read = a .limits; source-form = source; no-sort-fault = a .no-sort-fault; no-label-fault = a .no-label-fault });
+    }
+
+-- ======== Document 02, wish 4
+-- "Operators 6, 7 and 8 record an entry of kind 9 holding the count before the modulo, after both operands. .. the example's traces do not move, and
+-- answers only where the added entries fill the trace. Onlookers who see counts are included in the promise to the token's holder." That promise is
+-- property 3, which speaks of each trace word recorded.
+
+pub record Wish4 : Type 0 where
+  -- A shift whose operands have the values v and w records w, all of it, where there is room for an entry; else it is stopped with 22. Both stand at its
+  -- own word.
+  pub count-recorded : (room place op v w : ℕ) (trace : List ℕ) → shifts op ≡ true → length trace + 2 ≤ room
+      → operated (traceWords room) place op v w trace ≡ value (applyBinary op v w) (trace ++ ((9 * 268435456 + place) ∷ w ∷ []))
+  pub count-stopped : (room place op v w : ℕ) (trace : List ℕ) → shifts op ≡ true → room < length trace + 2
+      → operated (traceWords room) place op v w trace ≡ stop 22 place trace
+  -- A call by given operators is the call, if they are today's: so the former call is another in its operators alone, and in both each operator is
+  -- carried out at its own word, after both operands.
+  pub by-operators : (image cells : List ℕ) (f : ℕ) (arguments : List ℕ) (budget : ℕ) (trace : List ℕ)
+      → callBytesBy operated image cells f arguments budget trace ≡ callBytes image cells f arguments budget trace
+  -- A call ends as it did before the wish, and its trace without the entries of kind 9 is the former one; or it is stopped with 22, where "the added
+  -- entries fill the trace".
+  pub only-entries-added : (image cells : List ℕ) (f : ℕ) (arguments : List ℕ) (budget : ℕ) (trace : List ℕ)
+      → OnlyEntriesAdded (wordsOf image) (length (wordsOf trace)) (callBytes image cells f arguments budget trace)
+      (formerCallBytes image cells f arguments budget trace)
+  -- An image in which no word names one of the three operators keeps every answer, to the last byte. The example is one, in source form and compiled
+  -- (cases/specs/Cases.antt, `example-has-no-shift`).
+  pub no-shift-same : (image : List ℕ) → noShift (wordsOf image) ≡ true
+      → (cells : List ℕ) (f : ℕ) (arguments : List ℕ) (budget : ℕ) (trace : List ℕ)
+      → callBytes image cells f arguments budget trace ≡ formerCallBytes image cells f arguments budget trace
+
+pub wish-4 : Wish4
+wish-4 =
+    record {
+      count-recorded = count-recorded;
+      count-stopped = count-stopped;
+      by-operators = by-operators;
+      only-entries-added = only-entries-added;
+      no-shift-same = λ image none cells f arguments budget trace. no-shift-same image cells f arguments budget trace none;
     }
 
 -- ======== The C functions

@@ -1,5 +1,5 @@
 pub mod Named
-pub mod ArraysNamed
+pub mod WordsNamed
 pub mod Answers
 pub mod Runs
 pub mod Images
@@ -7,6 +7,11 @@ pub mod Accepted
 pub mod Requests
 pub mod Exactly
 pub mod Written
+pub mod SideBySide
+pub mod MoreWords
+pub mod ByOperators
 pub mod TwoRuns
+pub mod TwoCalls
 pub mod StoppedExactly
 pub mod WithinLimits
+pub mod CountsAdded

@@ -18,7 +18,7 @@ use Rattle.definitions.specs.Requests.{Ready, ready, unready, withCells, readyT
 use Rattle.definitions.specs.Requests.{carriedOut, zeroed, load, clear, hasCell, poke, peek, Called, argumentValues}
 use Rattle.definitions.specs.Requests.{ended, calledOn, servedCall, call}
 use Rattle.laws.specs.Trees.{ProceduresPlaces}
-use Rattle.results.specs.ArraysNamed.{AnyArray, procedures-any}
+use Rattle.results.specs.WordsNamed.{AnyName, procedures-any}
 use Rattle.results.specs.Runs.{Claim, Runs, goes, halts, Gives, procedure-runs}
 use Rattle.results.specs.Answers.{Stop, budget-spent, trace-full, beyond-array, divisor-0, Recorded, Calls, ends, stops}
 use Rattle.results.specs.Answers.{call-refuses}
@@ -99,7 +99,7 @@ longer room w v t r e =
 
 -- what is claimed of a run over the words that a host lends: steps within the budget, whole entries within the trace, cells
 -- as many as they were, and one of the four stops at a place below n
-abbrev claimed : (n budget room size : ℕ) (arrays : List ℕ) → Claim (traceWords room) budget arrays (λ p. p < n) AnyArray
+abbrev claimed : (n budget room size : ℕ) (arrays : List ℕ) → Claim (traceWords room) budget arrays (λ p. p < n) AnyName
 claimed n budget room size arrays =
     record {
       Going = λ z t. (z ≤ budget) × Recorded room t;

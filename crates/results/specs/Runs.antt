@@ -1,7 +1,7 @@
 -- Running, once for every claim about one run: what holds of the steps and the trace at the start, is kept by a step and by
 -- an entry, and so holds wherever the run goes on; and what each of the four stops is claimed to be, it is. Assumes nothing.
 use mathlib.Core.Path.{_≡_, refl}
-use mathlib.Core.Bool.{Bool, true, false, _||_}
+use mathlib.Core.Bool.{Bool, true, false}
 use mathlib.Core.List.{List}
 use Prim.Native.Nat.{ℕ, zero, suc, _+_, _-_, _*_}
 use borrow.Author.Tests.{eqb-true}
@@ -9,22 +9,22 @@ use lib.Dec.{ltb, eqb}
 use lib.ListN.{getD, set}
 use Rattle.definitions.specs.Choice.{pick}
 use Rattle.definitions.specs.Arithmetic.{truth}
-use Rattle.definitions.specs.Operators.{applyBinary}
+use Rattle.definitions.specs.Operators.{divides, shifts, applyBinary}
 use Rattle.definitions.specs.Image.{arrayLength, Expression, Statement, Block, Procedure, procedureAt}
 use Rattle.definitions.specs.Running.{Trace, Evaluated, value, stop, Ran, on, halt, bind, within, andGo, emit, inArray}
-use Rattle.definitions.specs.Running.{indexAt, divided, operated, evaluate, evaluateAll, Outcome, next, back, Given}
+use Rattle.definitions.specs.Running.{indexAt, divided, shifted, operated, evaluate, evaluateAll, Outcome, next, back, Given}
 use Rattle.definitions.specs.Running.{gave, Callee, Body, tick, after, passes, taken, received, runStatement, runBlock}
 use Rattle.definitions.specs.Running.{frame, finish, runProcedure}
 use Rattle.laws.specs.Trees.{ExpressionPlaces, at-constant, at-boolean, at-variable, at-cell, at-unary, at-binary}
 use Rattle.laws.specs.Trees.{at-select, ExpressionsPlaces, no-expression, and-expression, StatementPlaces, in-assign}
 use Rattle.laws.specs.Trees.{in-store, in-conditional, in-loop, in-return, in-call, BlockPlaces, in-done, in-sequence}
 use Rattle.laws.specs.Trees.{ProceduresPlaces, body-places}
-use Rattle.results.specs.ArraysNamed.{ExpressionArrays, ExpressionsArrays, StatementArrays, BlockArrays}
-use Rattle.results.specs.ArraysNamed.{ProceduresArrays}
+use Rattle.results.specs.WordsNamed.{WordName, named-array, ExpressionNames, ExpressionsNames, StatementNames, BlockNames}
+use Rattle.results.specs.WordsNamed.{ProceduresNames}
 
 -- A claim about runs over the given budget and array words: what holds of the steps and the trace wherever a run goes on, of
--- a stop's number, place, steps and trace, and of the cells. Places are as R says, and arrays named there as N says.
-pub record Claim {T : Type 0} (tracing : Trace T) (budget : ℕ) (arrays : List ℕ) (R : ℕ → Type 0) (N : ℕ → ℕ → Type 0) : Type 1 where
+-- a stop's number, place, steps and trace, and of the cells. Places are as R says, and what the words there name as N says.
+pub record Claim {T : Type 0} (tracing : Trace T) (budget : ℕ) (arrays : List ℕ) (R : ℕ → Type 0) (N : ℕ → WordName → Type 0) : Type 1 where
   pub Going : ℕ → T → Type 0
   pub Stops : ℕ → ℕ → ℕ → T → Type 0
   pub Cells : List ℕ → Type 0
@@ -33,11 +33,11 @@ pub record Claim {T : Type 0} (tracing : Trace T) (budget : ℕ) (arrays : List 
   pub spent : (l z : ℕ) (t : T) → R l → ltb z budget ≡ false → Going z t → Stops 21 l z t
   pub recorded : (kind l v z : ℕ) (t : T) → R l → tracing .full t ≡ false → Going z t → Going z (tracing .add (kind * 268435456 + l) v t)
   pub filled : (l z : ℕ) (t : T) → R l → tracing .full t ≡ true → Going z t → Stops 22 l z t
-  pub beyond : (a l i z : ℕ) (t : T) → R l → N l a → ltb i (arrayLength (getD arrays a 0)) ≡ false
+  pub beyond : (a l i z : ℕ) (t : T) → R l → N l (named-array a) → ltb i (arrayLength (getD arrays a 0)) ≡ false
       → Going z (tracing .add (4 * 268435456 + l) i t) → Stops 23 l z (tracing .add (4 * 268435456 + l) i t)
   pub divisor : (l z : ℕ) (t : T) → R l → Going z (tracing .add (6 * 268435456 + l) 0 t) → Stops 24 l z (tracing .add (6 * 268435456 + l) 0 t)
 
-module _ {T : Type 0} {tracing : Trace T} {budget : ℕ} {arrays : List ℕ} {R : ℕ → Type 0} {N : ℕ → ℕ → Type 0}
+module _ {T : Type 0} {tracing : Trace T} {budget : ℕ} {arrays : List ℕ} {R : ℕ → Type 0} {N : ℕ → WordName → Type 0}
     (C : Claim tracing budget arrays R N) where
   -- an evaluation in a run that has taken z steps
   data Evaluates {A : Type 0} (z : ℕ) (P : A → T → Type 0) : Evaluated T A → Type 0 where
@@ -87,7 +87,7 @@ module _ {T : Type 0} {tracing : Trace T} {budget : ℕ} {arrays : List ℕ} {R 
       go true e = stops (C .filled l z t r e g)
       go false e = evaluates (C .recorded kind l v z t r e g) (refl, refl)
 
-  indexes : (a l i z : ℕ) (t : T) → R l → N l a → C .Going z t → Evaluates z Any (indexAt tracing arrays a l i t)
+  indexes : (a l i z : ℕ) (t : T) → R l → N l (named-array a) → C .Going z t → Evaluates z Any (indexAt tracing arrays a l i t)
   unfolding indexAt inArray Any
   indexes a l i z t r n g =
       then-evaluates (emits 4 l i z t r g) (λ j u q p. rw (p .0, p .1) (tested (rw (p .1) at q) (ltb i (arrayLength (getD arrays a 0))) refl))
@@ -98,8 +98,8 @@ module _ {T : Type 0} {tracing : Trace T} {budget : ℕ} {arrays : List ℕ} {R 
       tested q false e = stops (C .beyond a l i z t r n e q)
 
   operates : (l o v w z : ℕ) (t : T) → R l → C .Going z t → Evaluates z Any (operated tracing l o v w t)
-  unfolding operated divided Any
-  operates l o v w z t r g = go (eqb o 9 || eqb o 10)
+  unfolding operated divided shifted Any
+  operates l o v w z t r g = go (divides o) (shifts o)
     where
       tested : (u : T) → C .Going z (tracing .add (6 * 268435456 + l) w u) → (b : Bool) → eqb w 0 ≡ b
           → Evaluates z Any
@@ -107,14 +107,15 @@ module _ {T : Type 0} {tracing : Trace T} {budget : ℕ} {arrays : List ℕ} {R 
       tested u q true e = let n = eqb-true w 0 e in rw n (stops (C .divisor l z u r (rw n at q)))
       tested u q false e = evaluates q tt
 
-      go : (b : Bool) → Evaluates z Any (pick b (divided tracing l o v w) (value (applyBinary o v w)) t)
-      go true =
+      go : (b c : Bool) → Evaluates z Any (pick b (divided tracing l o v w) (pick c (shifted tracing l o v w) (value (applyBinary o v w))) t)
+      go true c =
           then-evaluates (emits 5 l v z t r g) (λ a u q p. then-evaluates (emits 6 l w z u r q) (λ b x s y. rw (y .1) (tested u (rw (y .1) at s) (eqb w 0) refl)))
-      go false = evaluates g tt
+      go false true = then-evaluates (emits _ l _ z t r g) (λ a u q p. evaluates q tt)
+      go false false = evaluates g tt
 
-  expression-evaluates : {e : Expression} → ExpressionPlaces R e → ExpressionArrays N e → (vs cs : List ℕ) (z : ℕ) (t : T) → C .Going z t
+  expression-evaluates : {e : Expression} → ExpressionPlaces R e → ExpressionNames N e → (vs cs : List ℕ) (z : ℕ) (t : T) → C .Going z t
       → Evaluates z Any (evaluate tracing arrays e vs cs t)
-  unfolding evaluate Any ExpressionArrays
+  unfolding evaluate Any ExpressionNames
   expression-evaluates (at-constant h) n vs cs z t g = evaluates g tt
   expression-evaluates (at-boolean h) n vs cs z t g = evaluates g tt
   expression-evaluates (at-variable h) n vs cs z t g = evaluates g tt
@@ -122,16 +123,16 @@ module _ {T : Type 0} {tracing : Trace T} {budget : ℕ} {arrays : List ℕ} {R 
       then-evaluates (expression-evaluates r (n .1) vs cs z t g) (λ v u q _. then-evaluates (indexes a p v z u h (n .0) q) (λ j x s _. evaluates s tt))
   expression-evaluates (at-unary h r) n vs cs z t g = then-evaluates (expression-evaluates r n vs cs z t g) (λ v u q _. evaluates q tt)
   expression-evaluates (at-binary {p} {o} h r s) n vs cs z t g =
-      then-evaluates (expression-evaluates r (n .0) vs cs z t g)
-      (λ v u q _. then-evaluates (expression-evaluates s (n .1) vs cs z u q) (λ w x m _. operates p o v w z x h m))
+      then-evaluates (expression-evaluates r (n .1) vs cs z t g)
+      (λ v u q _. then-evaluates (expression-evaluates s (n .2) vs cs z u q) (λ w x m _. operates p o v w z x h m))
   expression-evaluates (at-select h r s i) n vs cs z t g =
       then-evaluates (expression-evaluates r (n .0) vs cs z t g)
       (λ b u q _. then-evaluates (expression-evaluates s (n .1) vs cs z u q)
       (λ v x m _. then-evaluates (expression-evaluates i (n .2) vs cs z x m) (λ w y o _. evaluates o tt)))
 
-  all-evaluate : {es : List Expression} → ExpressionsPlaces R es → ExpressionsArrays N es → (vs cs : List ℕ) (z : ℕ) (t : T) → C .Going z t
+  all-evaluate : {es : List Expression} → ExpressionsPlaces R es → ExpressionsNames N es → (vs cs : List ℕ) (z : ℕ) (t : T) → C .Going z t
       → Evaluates z Any (evaluateAll tracing arrays es vs cs t)
-  unfolding evaluateAll Any ExpressionsArrays
+  unfolding evaluateAll Any ExpressionsNames
   all-evaluate no-expression n vs cs z t g = evaluates g tt
   all-evaluate (and-expression r s) n vs cs z t g =
       then-evaluates (expression-evaluates r (n .0) vs cs z t g)
@@ -178,9 +179,9 @@ module _ {T : Type 0} {tracing : Trace T} {budget : ℕ} {arrays : List ℕ} {R 
 
   module _ (K : Callee T) (k : CalleeRuns K) where
     mutual
-      unfolding runStatement runBlock StatementArrays BlockArrays
+      unfolding runStatement runBlock StatementNames BlockNames
 
-      statement-runs : (l : ℕ) {s : Statement} → R l → StatementPlaces R s → StatementArrays N l s → BodyRuns (runStatement tracing budget arrays K l s)
+      statement-runs : (l : ℕ) {s : Statement} → R l → StatementPlaces R s → StatementNames N l s → BodyRuns (runStatement tracing budget arrays K l s)
       statement-runs l h (in-assign r) n z t vs cs g c = then-runs (expression-evaluates r n vs cs z t g) (λ v u q _. goes q c)
       statement-runs l h (in-store {a} r s) n z t vs cs g c =
           then-runs (expression-evaluates r (n .1) vs cs z t g)
@@ -202,7 +203,7 @@ module _ {T : Type 0} {tracing : Trace T} {budget : ℕ} {arrays : List ℕ} {R 
           then-runs (all-evaluate r n vs cs z t g)
           (λ ws u q _. then-runs (emits 7 l f z u h q) (λ d y m _. then-goes (k f ws z y cs m c) (receives x vs)))
 
-      block-runs : {b : Block} → BlockPlaces R b → BlockArrays N b → BodyRuns (runBlock tracing budget arrays K b)
+      block-runs : {b : Block} → BlockPlaces R b → BlockNames N b → BodyRuns (runBlock tracing budget arrays K b)
       block-runs in-done n z t vs cs g c = goes g c
       block-runs (in-sequence {p} h r b) n z t vs cs g c =
           ticks p z t _ h g
@@ -215,7 +216,7 @@ module _ {T : Type 0} {tracing : Trace T} {budget : ℕ} {arrays : List ℕ} {R 
   finishes (next vs cs) z t g c = goes g c
   finishes (back v cs) z t g c = goes g c
 
-  pub procedure-runs : {ps : List Procedure} → ProceduresPlaces R ps → ProceduresArrays N ps → (n : ℕ) → CalleeRuns (runProcedure tracing budget arrays ps n)
+  pub procedure-runs : {ps : List Procedure} → ProceduresPlaces R ps → ProceduresNames N ps → (n : ℕ) → CalleeRuns (runProcedure tracing budget arrays ps n)
   unfolding runProcedure
   procedure-runs r a zero f ws z t cs g c = goes g c
   procedure-runs {ps} r a (suc n) f ws z t cs g c = go (λ h xs p q ds m i. procedure-runs r a n h xs p q ds m i) (eqb f n)

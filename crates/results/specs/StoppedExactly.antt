@@ -2,39 +2,38 @@
 -- why. Of two calls that differ only in the budget, or only in the trace lent, one is the other, or the smaller budget or trace is what stopped it.
 -- A call stopped with 21 has taken the steps of its budget, and one stopped with 22 has fewer than two trace words free. Assumes nothing.
 use mathlib.Core.Path.{_≡_, refl, sym, ap, _∙_}
-use mathlib.Core.Bool.{Bool, true, false, _&&_}
+use mathlib.Core.Bool.{Bool, false}
 use mathlib.Core.List.{List, [], _∷_, _++_}
 use Prim.Native.Nat.{ℕ, _+_, _*_, _≤_, _<_}
 use native.Mathlib.Omega.{arith}
 use borrow.Author.Tests.{ltb-false}
-use lib.Dec.{ltb, leb, eqb}
-use lib.ListN.{length, getD, take, drop}
-use lib.Seq.{take-append-seam}
-use Rattle.definitions.specs.Choice.{pick}
+use lib.Dec.{ltb}
+use lib.ListN.{length, getD, take}
 use Rattle.definitions.specs.Bytes.{wordsOf, lent}
 use Rattle.definitions.specs.declared.Answer.{Answer}
 use Rattle.definitions.specs.declared.Answer.the-variants.{Stopped, Refused}
-use Rattle.definitions.specs.Image.{arraysOf, arrayLength, cellCount, Procedure, Image, procedureAt}
-use Rattle.definitions.specs.Reading.{Parse, got, refused}
+use Rattle.definitions.specs.Image.{arraysOf, arrayLength, Procedure, Image, procedureAt}
+use Rattle.definitions.specs.Reading.{got}
 use Rattle.definitions.specs.Checking.{admitted}
 use Rattle.definitions.specs.Running.{traceWords, Ran, on, halt, Given, gave, runProcedure}
-use Rattle.definitions.specs.Requests.{ready, unready, withCells, readyToLoad, readyToServe, Called, argumentValues}
-use Rattle.definitions.specs.Requests.{ended, calledOn, servedCall, call}
+use Rattle.definitions.specs.Requests.{Called, argumentValues}
+use Rattle.definitions.specs.Requests.{ended, calledOn, call}
 use Rattle.definitions.specs.Host.{wholeWords, callBytes}
 use Rattle.statements.specs.Statements.{stepsOf, recordedCount, recordedIn, BeyondArray, DivisorZero, SameOrSpent}
 use Rattle.statements.specs.Statements.{same-call, spent-budget, SameOrFilled, same-answer, filled-trace}
-use Rattle.laws.specs.WordsOfBytes.{words-first}
 use Rattle.laws.specs.Admitted.{admitted-read}
 use Rattle.laws.specs.Faultless.{faultless}
 use Rattle.laws.specs.Reads.{Inside}
 use Rattle.laws.specs.ReadImages.{ImageWords, open-image}
-use Rattle.results.specs.ArraysNamed.{WithArray, Names, procedures-arrays}
+use Rattle.results.specs.TwoCalls.{steps-ended, trace-ended, recorded-lent, both-called}
+use Rattle.results.specs.WordsNamed.{named-array, WithArray, Names, procedures-arrays}
 use Rattle.results.specs.Answers.{Stop, budget-spent, trace-full, beyond-array, divisor-0, Calls, ends, stops}
 use Rattle.results.specs.Answers.{call-refuses}
 use Rattle.results.specs.Images.{admits-image}
 use Rattle.results.specs.Requests.{calls-image}
-use Rattle.results.specs.TwoRuns.{stepsTaken, traceLeft, More, more-length, more-taken, Cut, same, spent, filled}
-use Rattle.results.specs.TwoRuns.{two-runs}
+use Rattle.results.specs.SideBySide.{stepsTaken, traceLeft, SameRun, both-on, both-halt, first-halt}
+use Rattle.results.specs.MoreWords.{More, more-length, more-taken}
+use Rattle.results.specs.TwoRuns.{Cut, spent, filled, cut-comparison, two-runs}
 use Rattle.results.specs.Runs.{Claim, Runs, goes, halts, Gives, procedure-runs}
 
 -- ---- two calls on words that differ only in the budget and in the room for trace words
@@ -45,44 +44,15 @@ runOf tree cells f arguments budget room =
     runProcedure (traceWords room) budget (tree .arrays) (tree .procedures) (length (tree .procedures)) f
     (argumentValues (procedureAt (tree .procedures) f .types) arguments) 0 [] cells
 
--- they are refused alike, or the image is admitted and both run the procedure
 both-calls : (P : Called → Called → Type 0) (whole : Bool) (words cells : List ℕ) (f : ℕ) (arguments : List ℕ)
     → ((k p : ℕ) → P (Refused k p, cells, []) (Refused k p, cells, [])) → (b b′ r r′ : ℕ)
     → ((tree : Image) (n : ℕ) → admitted whole words ≡ got tree n
     → P (ended (procedureAt (tree .procedures) f) cells (runOf tree cells f arguments b r))
     (ended (procedureAt (tree .procedures) f) cells (runOf tree cells f arguments b′ r′)))
     → P (call whole words cells f arguments b r) (call whole words cells f arguments b′ r′)
-unfolding call servedCall readyToServe readyToLoad withCells calledOn
-both-calls P whole words cells f arguments refusal b b′ r r′ run = empty (whole && eqb (length words) 0)
-  where
-    first : Image → Called
-    first tree = calledOn tree cells f arguments b r
-
-    second : Image → Called
-    second tree = calledOn tree cells f arguments b′ r′
-
-    named : (c d : Bool) (x y : Called) → P x y
-        → P (pick c (pick d x (Refused 18 0, cells, [])) (Refused 17 0, cells, [])) (pick c (pick d y (Refused 18 0, cells, [])) (Refused 17 0, cells, []))
-    named true true x y h = h
-    named true false x y h = refusal 18 0
-    named false d x y h = refusal 17 0
-
-    enough : (tree : Image) (n : ℕ) → admitted whole words ≡ got tree n → (c : Bool)
-        → P (servedCall (pick c (ready tree) (unready 17 0)) cells first) (servedCall (pick c (ready tree) (unready 17 0)) cells second)
-    enough tree n e true =
-        named (ltb f (length (tree .procedures))) (eqb (length arguments) (procedureAt (tree .procedures) f .parameters)) _ _ (run tree n e)
-    enough tree n e false = refusal 17 0
-
-    read : (x : Parse Image) → admitted whole words ≡ x
-        → P (servedCall (withCells x (length cells)) cells first) (servedCall (withCells x (length cells)) cells second)
-    read (got tree n) e = enough tree n e (leb (cellCount (tree .arrays)) (length cells))
-    read (refused k p) e = refusal k p
-
-    empty : (c : Bool)
-        → P (servedCall (pick c (unready 20 0) (withCells (admitted whole words) (length cells))) cells first)
-        (servedCall (pick c (unready 20 0) (withCells (admitted whole words) (length cells))) cells second)
-    empty true = refusal 20 0
-    empty false = read (admitted whole words) refl
+unfolding call calledOn
+both-calls P whole words cells f arguments refusal b b′ r r′ run =
+    both-called P whole words cells f arguments refusal (λ tree. runOf tree cells f arguments b r) (λ tree. runOf tree cells f arguments b′ r′) run
 
 -- ---- 23 and 24: the proofs
 
@@ -91,7 +61,7 @@ abbrev LastEntry : List ℕ → ℕ → ℕ → List ℕ → Type 0
 LastEntry words k place recorded = (k ≡ 23 → BeyondArray words place recorded) × (k ≡ 24 → DivisorZero words place recorded)
 
 module _ {whole : Bool} {words : List ℕ} {tree : Image} {n : ℕ} (w : ImageWords whole words tree n) (budget room : ℕ) where
-  index-beyond : (a l i : ℕ) (t : List ℕ) → l < length words → WithArray (Names words) (length (tree .arrays)) l a
+  index-beyond : (a l i : ℕ) (t : List ℕ) → l < length words → WithArray (Names words) (length (tree .arrays)) l (named-array a)
       → ltb i (arrayLength (getD (tree .arrays) a 0)) ≡ false → BeyondArray words l (t ++ ((4 * 268435456 + l) ∷ i ∷ []))
   index-beyond a l i t h m e =
       let c : length (tree .arrays) ≡ arraysOf (getD words 0 0) = w .arrays .words .count in
@@ -148,11 +118,6 @@ call-with whole words cells f arguments budget room =
 
 -- ---- the recorded words of a call on lent bytes
 
-take-lent : (trace recorded : List ℕ) → take (length recorded) (wordsOf (lent trace recorded)) ≡ recorded
-unfolding lent
-take-lent trace recorded =
-    rw (words-first recorded (drop (4 * length recorded) trace)) (take-append-seam recorded (wordsOf (drop (4 * length recorded) trace)))
-
 -- what is known of one call (Answers): steps within the budget, the number of words recorded, which are within the trace lent, when 21 and 22 fall
 record Limits (budget room : ℕ) (x : Called) : Type 0 where
   steps : stepsOf (x .0) ≤ budget
@@ -201,8 +166,8 @@ recorded-bytes : (image cells : List ℕ) (f : ℕ) (arguments : List ℕ) (budg
     ≡ call (wholeWords image) (wordsOf image) (wordsOf cells) f (wordsOf arguments) budget (length (wordsOf trace)) .2
 unfolding callBytes
 recorded-bytes image cells f arguments budget trace =
-    let r = call (wholeWords image) (wordsOf image) (wordsOf cells) f (wordsOf arguments) budget (length (wordsOf trace)) in
-    rw (limits-call (wholeWords image) (wordsOf image) (wordsOf cells) f (wordsOf arguments) budget (length (wordsOf trace)) .count) (take-lent trace (r .2))
+    recorded-lent trace (call (wholeWords image) (wordsOf image) (wordsOf cells) f (wordsOf arguments) budget (length (wordsOf trace)))
+    (limits-call (wholeWords image) (wordsOf image) (wordsOf cells) f (wordsOf arguments) budget (length (wordsOf trace)) .count)
 
 module _ (image cells : List ℕ) (f : ℕ) (arguments : List ℕ) (budget : ℕ) (trace : List ℕ) where
   last-entry : (k p z n : ℕ) → callBytes image cells f arguments budget trace .0 ≡ Stopped k p z n
@@ -229,21 +194,16 @@ data CutCall (b r : ℕ) (x y : Called) : Type 0 where
   cut-spent : (p n : ℕ) → x .0 ≡ Stopped 21 p b n → b < stepsOf (y .0) → CutCall b r x y
   cut-filled : (p z : ℕ) → x .0 ≡ Stopped 22 p z (length (x .2)) → r < length (x .2) + 2 → More 2 (x .2) (y .2) → CutCall b r x y
 
-steps-ended : (p : Procedure) (cells : List ℕ) (x : Ran (List ℕ) Given) → stepsOf (ended p cells x .0) ≡ stepsTaken x
+cut-ended : {b r : ℕ} (p : Procedure) (cells : List ℕ) {x y : Ran (List ℕ) Given} → SameRun (cut-comparison b r) x y
+    → CutCall b r (ended p cells x) (ended p cells y)
 unfolding ended
-steps-ended p cells (on (gave v after) z t) = refl
-steps-ended p cells (halt k l z t) = refl
-
-trace-ended : (p : Procedure) (cells : List ℕ) (x : Ran (List ℕ) Given) → ended p cells x .2 ≡ traceLeft x
-unfolding ended
-trace-ended p cells (on (gave v after) z t) = refl
-trace-ended p cells (halt k l z t) = refl
-
-cut-ended : {b r : ℕ} (p : Procedure) (cells : List ℕ) {x y : Ran (List ℕ) Given} → Cut b r x y → CutCall b r (ended p cells x) (ended p cells y)
-unfolding ended
-cut-ended p cells (same x h) = cut-same refl
-cut-ended p cells (spent l t y q) = cut-spent l (length t) refl (rw (steps-ended p cells y) (let h = q .steps in omega arith))
-cut-ended p cells (filled l z t y h q) = cut-filled l z refl h (rw (trace-ended p cells y) (q .words))
+cut-ended p cells (both-on {a} {z} h) = cut-same (ap (λ t. ended p cells (on a z t)) (h .0))
+cut-ended p cells (both-halt {k} {l} {z} h) = cut-same (ap (λ t. ended p cells (halt k l z t)) (h .0))
+cut-ended {b} {r} p cells (first-halt {k} {l} {z} {t} {y} q) = go q
+  where
+    go : {k : ℕ} → Cut b r k l z t (stepsTaken y) (traceLeft y) → CutCall b r (ended p cells (halt k l z t)) (ended p cells y)
+    go (spent e h m) = cut-spent l (length t) (rw e) (rw (steps-ended p cells y) h)
+    go (filled h m) = cut-filled l z refl h (rw (trace-ended p cells y) m)
 
 cut-call : (b b′ r r′ : ℕ) → b ≤ b′ → r ≤ r′ → (whole : Bool) (words cells : List ℕ) (f : ℕ) (arguments : List ℕ)
     → CutCall b r (call whole words cells f arguments b r) (call whole words cells f arguments b′ r′)

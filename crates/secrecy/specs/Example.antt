@@ -65,7 +65,7 @@ unfolding wordsOf bytesOf lent headerWord arrayWord procedureWord typeWord block
     Sorts.markBlock Sorts.statementSortFaults Sorts.blockSortFaults Labels.secretIn Labels.isConstant Labels.constantValue
     Labels.boundedIndex Labels.labelFaults Labels.argumentLabelFaults Labels.procedureLabelFaults Labels.proceduresLabelFaults
     Labels.imageLabelFaults Labels.rcAfter Labels.rcAfterBlock Labels.statementLabelFaults Labels.blockLabelFaults faultOf applyBinary
-    applyUnary Running.emit Running.inArray Running.indexAt Running.divided Running.operated Running.evaluate Running.evaluateAll
+    applyUnary Running.emit Running.inArray Running.indexAt Running.divided Running.shifted Running.operated Running.evaluate Running.evaluateAll
     Running.tick Running.passes Running.taken Running.received Running.frame Running.finish Running.runProcedure Running.runStatement
     Running.runBlock Requests.withCells withoutFault admitted flatMap Requests.readyToLoad Requests.readyToServe Requests.served Requests.load Requests.clear
     Requests.poke Requests.peek Requests.argumentValues Requests.ended Requests.calledOn Requests.servedCall Requests.call loadBytes

@@ -11,11 +11,11 @@ use lib.Dec.{eqb, ltb}
 use lib.ListN.{length, getD}
 use borrow.Author.Tests.{ltb-true}
 use Rattle.definitions.specs.Choice.{pick}
-use Rattle.definitions.specs.Operators.{applyBinary, applyUnary}
+use Rattle.definitions.specs.Operators.{divides, shifts, applyBinary, applyUnary}
 use Rattle.definitions.specs.Image.{arraySecret, arrayLength, typeSecret, baseOf, Expression, constant, boolean}
 use Rattle.definitions.specs.Image.{variable, cell, unary, binary, select}
 use Rattle.definitions.specs.Labels.{secretIn, labelFaults, argumentLabelFaults}
-use Rattle.definitions.specs.Running.{Trace, value, stop, emit, inArray, indexAt, divided, operated, evaluate}
+use Rattle.definitions.specs.Running.{Trace, value, stop, emit, inArray, indexAt, divided, shifted, operated, evaluate}
 use Rattle.definitions.specs.Running.{evaluateAll}
 use Rattle.secrecy.specs.Rules.{or-left, or-right, cell-rules, binary-rules, select-rules, argument-rules}
 use Rattle.secrecy.specs.Agreement.{Agree, agree-cons, agree-labels, cellSecret, layout}
@@ -37,19 +37,26 @@ same-index {T} C arrays a l v t = on-bind (itself (emit C 4 l v t)) λ i j u e. 
     by-test j u true e = values (refl, ltb-true j (arrayLength (getD arrays a 0)) e)
     by-test j u false e = stops
 
--- an operator: the operands of a division are the same
+-- an operator: the operands of a division are the same, and so is a shift's count, whatever is shifted
 same-operated : {T : Type 0} (C : Trace T) (p o v w x y : ℕ) (t : T) (s r : Bool)
-    → (s ≡ false → v ≡ x) → (r ≡ false → w ≡ y) → ((eqb o 9 || eqb o 10) ≡ true → (s ≡ false) × (r ≡ false))
+    → (s ≡ false → v ≡ x) → (r ≡ false → w ≡ y)
+    → (divides o ≡ true → (s ≡ false) × (r ≡ false)) → (shifts o ≡ true → r ≡ false)
     → Evaluations (λ a b. (s || r) ≡ false → a ≡ b) (operated C p o v w t) (operated C p o x y t)
-unfolding operated
-same-operated {T} C p o v w x y t s r e f d = by-test (eqb o 9 || eqb o 10) d
+unfolding operated shifted
+same-operated {T} C p o v w x y t s r e f d c = by-test (divides o) (shifts o) d c
   where
-    by-test : (b : Bool) → (b ≡ true → (s ≡ false) × (r ≡ false))
-        → Evaluations (λ a b. (s || r) ≡ false → a ≡ b) (pick b (divided C p o v w) (value (applyBinary o v w)) t)
-        (pick b (divided C p o x y) (value (applyBinary o x y)) t)
-    by-test true k =
+    same-result : (s || r) ≡ false → applyBinary o v w ≡ applyBinary o x y
+    same-result g = rw (e (or-left s r g), f (or-right s r g))
+
+    by-test : (b b′ : Bool) → (b ≡ true → (s ≡ false) × (r ≡ false)) → (b′ ≡ true → r ≡ false)
+        → Evaluations (λ a b. (s || r) ≡ false → a ≡ b) (pick b (divided C p o v w) (pick b′ (shifted C p o v w) (value (applyBinary o v w))) t)
+        (pick b (divided C p o x y) (pick b′ (shifted C p o x y) (value (applyBinary o x y))) t)
+    by-test true b′ k l =
         rw (e (k refl .0), f (k refl .1)) (relaxed (itself (divided C p o x y t)) λ a b q g. q)
-    by-test false k = values {a = applyBinary o v w} {b = applyBinary o x y} (λ g. rw (e (or-left s r g), f (or-right s r g)))
+    by-test false true k l =
+        let count : w ≡ y = f (l refl) in
+        rw count (on-bind (itself (emit C 9 p y t)) λ i j u q. values {a = applyBinary o v y} {b = applyBinary o x y} (rw count at same-result))
+    by-test false false k l = values {a = applyBinary o v w} {b = applyBinary o x y} same-result
 
 module _ {T : Type 0} (C : Trace T) (arrays types bounds : List ℕ) (context : Bool) {n m : ℕ} {vs us cs ds : List ℕ}
     (hv : Agree n (variableSecret types) vs us) (hc : Agree m (cellSecret arrays) cs ds) where
@@ -71,7 +78,7 @@ module _ {T : Type 0} (C : Trace T) (arrays types bounds : List ℕ) (context : 
       let r = binary-rules types arrays bounds context p o e f h in
       on-bind (same-evaluate e (r .0) t) λ v x u q.
       on-bind (same-evaluate f (r .1) u) λ w y z k.
-      same-operated C p o v w x y z (secretIn types arrays e) (secretIn types arrays f) q k (r .2)
+      same-operated C p o v w x y z (secretIn types arrays e) (secretIn types arrays f) q k (r .2) (r .3)
   same-evaluate (select p c e f) h t =
       let r = select-rules types arrays bounds context p c e f h in
       on-bind (same-evaluate c (r .0) t) λ b d u q.

@@ -6,8 +6,7 @@ use mathlib.Core.List.{List, _∷_, []}
 use Prim.Native.Nat.{ℕ, _+_}
 use lib.Dec.{eqb, leb}
 use lib.ListN.{getD}
-use borrow.Author.Tests.{eqb-true}
-use Rattle.definitions.specs.Operators.{operator, both, right}
+use Rattle.definitions.specs.Operators.{operator, both, right, divides, shifts}
 use Rattle.definitions.specs.Image.{arraySecret, typeSecret, Expression, cell, binary, select, placeOf, Statement}
 use Rattle.definitions.specs.Image.{assign, store, conditional, loop, return, call, Block, sequence, Procedure}
 use Rattle.definitions.specs.Image.{procedureAt}
@@ -15,6 +14,7 @@ use Rattle.definitions.specs.Faults.{faultIf}
 use Rattle.definitions.specs.Labels.{secretIn, rcAfter, rcAfterBlock, labelFaults, argumentLabelFaults, loopBoundFaults}
 use Rattle.definitions.specs.Labels.{boundsInside, statementLabelFaults, blockLabelFaults}
 use Rattle.laws.specs.Tests.{nil-left, nil-right, kept}
+use Rattle.laws.specs.OperatorTests.{division-publics, shift-publics}
 
 pub or-left : (a b : Bool) → (a || b) ≡ false → a ≡ false
 or-left true b h = h
@@ -39,14 +39,6 @@ both-tests : (a s : Bool) → a ≡ true → (a && s) ≡ false → s ≡ false
 both-tests true s e h = h
 both-tests false s e h = absurd (false≢true e)
 
--- 9 quotient and 10 remainder want both operands public
-divides : (o : ℕ) → (eqb o 9 || eqb o 10) ≡ true → operator o .publics ≡ both
-divides o h = by-test (eqb o 9) refl h
-  where
-    by-test : (b : Bool) → eqb o 9 ≡ b → (b || eqb o 10) ≡ true → operator o .publics ≡ both
-    by-test true e f = rw (eqb-true o 9 e)
-    by-test false e f = rw (eqb-true o 10 f)
-
 module _ (types arrays bounds : List ℕ) (context : Bool) where
   -- an index is public
   pub cell-rules : (p a : ℕ) (i : Expression) → (labelFaults types arrays bounds context (cell p a i) ≡ [])
@@ -56,10 +48,11 @@ module _ (types arrays bounds : List ℕ) (context : Bool) where
       let k : (faultIf (secretIn types arrays i) 10 (placeOf i) ≡ []) = search (nil-left, nil-right) in
       (search nil-left, kept (secretIn types arrays i) 10 (placeOf i) k)
 
-  -- both sides of a division are public
+  -- both sides of a division are public, and so is a shift's count
   pub binary-rules : (p o : ℕ) (e f : Expression) → (labelFaults types arrays bounds context (binary p o e f) ≡ [])
       → (labelFaults types arrays bounds context e ≡ []) × (labelFaults types arrays bounds context f ≡ [])
-      × ((eqb o 9 || eqb o 10) ≡ true → (secretIn types arrays e ≡ false) × (secretIn types arrays f ≡ false))
+      × (divides o ≡ true → (secretIn types arrays e ≡ false) × (secretIn types arrays f ≡ false))
+      × (shifts o ≡ true → secretIn types arrays f ≡ false)
   unfolding labelFaults
   binary-rules p o e f h =
       let j : (faultIf (eqb (operator o .publics) both && secretIn types arrays e) 10 (placeOf e) ≡ []) = search (nil-left, nil-right) in
@@ -67,11 +60,13 @@ module _ (types arrays bounds : List ℕ) (context : Bool) where
         search nil-left,
         search (nil-left, nil-right),
         λ d. (
-          both-tests (eqb (operator o .publics) both) (secretIn types arrays e) (rw (divides o d) refl)
+          both-tests (eqb (operator o .publics) both) (secretIn types arrays e) (rw (division-publics o d) refl)
               (kept (eqb (operator o .publics) both && secretIn types arrays e) 10 (placeOf e) j),
-          both-tests (leb right (operator o .publics)) (secretIn types arrays f) (rw (divides o d) refl)
+          both-tests (leb right (operator o .publics)) (secretIn types arrays f) (rw (division-publics o d) refl)
               (kept (leb right (operator o .publics) && secretIn types arrays f) 10 (placeOf f) k),
         ),
+        λ d. both-tests (leb right (operator o .publics)) (secretIn types arrays f) (rw (shift-publics o d) refl)
+            (kept (leb right (operator o .publics) && secretIn types arrays f) 10 (placeOf f) k),
       )
 
   pub select-rules : (p : ℕ) (c e f : Expression) → (labelFaults types arrays bounds context (select p c e f) ≡ [])

@@ -1,3 +1,4 @@
 pub mod FormerLimits
+pub mod FormerTraces
 pub mod Limits
 pub mod Statements

@@ -3,18 +3,18 @@
 -- Assumes nothing.
 use mathlib.Core.Path.{_≡_, refl}
 use Prim.Native.Nat.{ℕ, zero, suc, _+_, _-_, _*_}
-use mathlib.Core.Bool.{Bool, true, false, _||_}
+use mathlib.Core.Bool.{Bool, true, false}
 use mathlib.Core.List.{List, [], _∷_}
 use lib.Dec.{ltb, eqb}
 use lib.ListN.{getD, set}
 use Rattle.definitions.specs.Choice.{pick}
 use Rattle.definitions.specs.Arithmetic.{truth}
-use Rattle.definitions.specs.Operators.{applyBinary, applyUnary}
+use Rattle.definitions.specs.Operators.{divides, shifts, applyBinary, applyUnary}
 use Rattle.definitions.specs.Image.{arrayLength, baseOf, Expression, constant, boolean, variable, cell, unary, binary}
 use Rattle.definitions.specs.Image.{select, Statement, assign, store, conditional, loop, return, call, Block, done}
 use Rattle.definitions.specs.Image.{sequence, Procedure, procedureAt}
 use Rattle.definitions.specs.Running.{Trace, Evaluated, value, stop, Ran, on, halt, bind, within, andGo, emit, inArray}
-use Rattle.definitions.specs.Running.{indexAt, divided, operated, evaluate, evaluateAll, Outcome, next, back, Given}
+use Rattle.definitions.specs.Running.{indexAt, divided, shifted, operated, evaluate, evaluateAll, Outcome, next, back, Given}
 use Rattle.definitions.specs.Running.{gave, Callee, Body, tick, after, passes, taken, received, runStatement, runBlock}
 use Rattle.definitions.specs.Running.{frame, finish, runProcedure}
 
@@ -137,13 +137,19 @@ module _ {T U : Type 0} (C : Trace T) (D : Trace U) (h : T → U)
       go x true = stop-same h ℕ 24 p x
       go x false = value-same h (applyBinary o v w) x
 
+  shifted-same : (p o v w : ℕ) (t : T) → shifted D p o v w (h t) ≡ mapEvaluated h (shifted C p o v w t)
+  unfolding shifted
+  shifted-same p o v w t = bind-same h _ _ _ _ (emit-same 9 p w t) (λ a u. value-same h (applyBinary o v w) u)
+
   operated-same : (p o v w : ℕ) (t : T) → operated D p o v w (h t) ≡ mapEvaluated h (operated C p o v w t)
   unfolding operated
-  operated-same p o v w t = go (eqb o 9 || eqb o 10)
+  operated-same p o v w t = go (divides o) (shifts o)
     where
-      go : (c : Bool) → pick c (divided D p o v w) (value (applyBinary o v w)) (h t) ≡ mapEvaluated h (pick c (divided C p o v w) (value (applyBinary o v w)) t)
-      go true = divided-same p o v w t
-      go false = value-same h (applyBinary o v w) t
+      go : (c d : Bool) → pick c (divided D p o v w) (pick d (shifted D p o v w) (value (applyBinary o v w))) (h t)
+          ≡ mapEvaluated h (pick c (divided C p o v w) (pick d (shifted C p o v w) (value (applyBinary o v w))) t)
+      go true d = divided-same p o v w t
+      go false true = shifted-same p o v w t
+      go false false = value-same h (applyBinary o v w) t
 
   pub evaluate-same : (arrays : List ℕ) (e : Expression) (vs cs : List ℕ) (t : T)
       → evaluate D arrays e vs cs (h t) ≡ mapEvaluated h (evaluate C arrays e vs cs t)

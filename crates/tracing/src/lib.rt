@@ -23,6 +23,8 @@ pub const CALLED: u32 = 7;
 
 pub const RETURNED: u32 = 8;
 
+pub const SHIFT_COUNT: u32 = 9;
+
 // What an evaluation comes to.
 pub enum Value {
     // the value, the place after it, the trace bytes used

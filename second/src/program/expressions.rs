@@ -123,11 +123,15 @@ impl Writer<'_> {
         dividend.max(self.divisor(spot, depth))
     }
 
-    /// In a secret context a nonzero constant; elsewhere seldom zero.
+    /// In a secret context a nonzero constant; elsewhere now and then a shift,
+    /// seldom the constant 0.
     fn divisor(&mut self, spot: Spot, depth: u32) -> Label {
         let open = !spot.is_secret() || self.slips(Slip::Unbounded);
-        let choice = if open { self.random.below(11) } else { 0 };
+        let choice = if open { self.random.below(13) } else { 0 };
         match choice {
+            11 | 12 if spot.level < self.max_level() => {
+                self.shift(Label::Public, spot.below(), depth.min(2))
+            }
             10 => {
                 words::push_constant(&mut self.output, 0);
                 Label::Public

@@ -1,5 +1,5 @@
--- Trees all of whose arrays are as N says of the place of the word that names the array, and of the array. In a tree that was
--- read each is the one that its word names, and in one without a fault each is an array of the image. Assumes nothing.
+-- Trees in which N holds of every word that names an array or a binary operator: of the word's place, and of what the tree has there. In a tree that
+-- was read it is what the word names, and in one without a fault an array is one of the image's. Assumes nothing.
 use mathlib.Core.Path.{_≡_, refl}
 use mathlib.Core.Bool.{Bool, true, false}
 use mathlib.Core.List.{List, [], _∷_, flatMap}
@@ -8,7 +8,7 @@ use native.Mathlib.Omega.{arith}
 use borrow.Author.Tests.{leb-true, leb-false}
 use lib.Dec.{leb}
 use lib.ListN.{length, getD, set}
-use Rattle.definitions.specs.Image.{payloadOf, blockWord, statementWord, expressionWord, rawWord}
+use Rattle.definitions.specs.Image.{kindOf, payloadOf, blockWord, statementWord, expressionWord, rawWord}
 use Rattle.definitions.specs.Image.{calledOf, largestLevel, Expression, constant, boolean, variable, cell, unary, binary}
 use Rattle.definitions.specs.Image.{select, Statement, assign, store, conditional, loop, return, call, Block, done}
 use Rattle.definitions.specs.Image.{sequence, Procedure, Image, procedureAt}
@@ -23,92 +23,99 @@ use Rattle.statements.specs.Statements.{NamesArray, in-expression, in-store}
 use Rattle.laws.specs.Reads.{Arities, Reads, reads, refuses, read-as, too-deep, reads-then, reads-word}
 use Rattle.laws.specs.ReadImages.{open-image}
 
-module _ (N : ℕ → ℕ → Type 0) where
-  unfoldable pub ExpressionArrays : Expression → Type 0
-  ExpressionArrays (constant p v) = Unit {0}
-  ExpressionArrays (boolean p v) = Unit {0}
-  ExpressionArrays (variable p x) = Unit {0}
-  ExpressionArrays (cell p a i) = N p a × ExpressionArrays i
-  ExpressionArrays (unary p o e) = ExpressionArrays e
-  ExpressionArrays (binary p o e f) = ExpressionArrays e × ExpressionArrays f
-  ExpressionArrays (select p c e f) = ExpressionArrays c × ExpressionArrays e × ExpressionArrays f
+-- what a word names: an array, or the operator of a binary expression
+pub data WordName : Type 0 where
+  named-array : ℕ → WordName
+  named-operator : ℕ → WordName
 
-  unfoldable pub ExpressionsArrays : List Expression → Type 0
-  ExpressionsArrays [] = Unit {0}
-  ExpressionsArrays (e ∷ es) = ExpressionArrays e × ExpressionsArrays es
+module _ (N : ℕ → WordName → Type 0) where
+  unfoldable pub ExpressionNames : Expression → Type 0
+  ExpressionNames (constant p v) = Unit {0}
+  ExpressionNames (boolean p v) = Unit {0}
+  ExpressionNames (variable p x) = Unit {0}
+  ExpressionNames (cell p a i) = N p (named-array a) × ExpressionNames i
+  ExpressionNames (unary p o e) = ExpressionNames e
+  ExpressionNames (binary p o e f) = N p (named-operator o) × ExpressionNames e × ExpressionNames f
+  ExpressionNames (select p c e f) = ExpressionNames c × ExpressionNames e × ExpressionNames f
+
+  unfoldable pub ExpressionsNames : List Expression → Type 0
+  ExpressionsNames [] = Unit {0}
+  ExpressionsNames (e ∷ es) = ExpressionNames e × ExpressionsNames es
 
   -- a statement at its place
   unfoldable mutual
-    pub StatementArrays : ℕ → Statement → Type 0
-    StatementArrays p (assign x e) = ExpressionArrays e
-    StatementArrays p (store a i e) = N p a × ExpressionArrays i × ExpressionArrays e
-    StatementArrays p (conditional c a b) = ExpressionArrays c × BlockArrays a × BlockArrays b
-    StatementArrays p (loop x f t b) = ExpressionArrays f × ExpressionArrays t × BlockArrays b
-    StatementArrays p (return e) = ExpressionArrays e
-    StatementArrays p (call f x es) = ExpressionsArrays es
+    pub StatementNames : ℕ → Statement → Type 0
+    StatementNames p (assign x e) = ExpressionNames e
+    StatementNames p (store a i e) = N p (named-array a) × ExpressionNames i × ExpressionNames e
+    StatementNames p (conditional c a b) = ExpressionNames c × BlockNames a × BlockNames b
+    StatementNames p (loop x f t b) = ExpressionNames f × ExpressionNames t × BlockNames b
+    StatementNames p (return e) = ExpressionNames e
+    StatementNames p (call f x es) = ExpressionsNames es
 
-    pub BlockArrays : Block → Type 0
-    BlockArrays done = Unit {0}
-    BlockArrays (sequence p s b) = StatementArrays p s × BlockArrays b
+    pub BlockNames : Block → Type 0
+    BlockNames done = Unit {0}
+    BlockNames (sequence p s b) = StatementNames p s × BlockNames b
 
-  abbrev pub ProceduresArrays : List Procedure → Type 0
-  ProceduresArrays ps = (f : ℕ) → BlockArrays (procedureAt ps f .body)
+  abbrev pub ProceduresNames : List Procedure → Type 0
+  ProceduresNames ps = (f : ℕ) → BlockNames (procedureAt ps f .body)
 
--- ---- where N says nothing of an array
+-- ---- where N says nothing of what is named
 
-abbrev pub AnyArray : ℕ → ℕ → Type 0
-AnyArray p a = Unit {0}
+abbrev pub AnyName : ℕ → WordName → Type 0
+AnyName p x = Unit {0}
 
-any-array : (e : Expression) → ExpressionArrays AnyArray e
-unfolding ExpressionArrays
-any-array (constant p v) = tt
-any-array (boolean p v) = tt
-any-array (variable p x) = tt
-any-array (cell p a i) = (tt, any-array i)
-any-array (unary p o e) = any-array e
-any-array (binary p o e f) = (any-array e, any-array f)
-any-array (select p c e f) = (any-array c, any-array e, any-array f)
+any-name : (e : Expression) → ExpressionNames AnyName e
+unfolding ExpressionNames
+any-name (constant p v) = tt
+any-name (boolean p v) = tt
+any-name (variable p x) = tt
+any-name (cell p a i) = (tt, any-name i)
+any-name (unary p o e) = any-name e
+any-name (binary p o e f) = (tt, any-name e, any-name f)
+any-name (select p c e f) = (any-name c, any-name e, any-name f)
 
-any-arrays : (es : List Expression) → ExpressionsArrays AnyArray es
-unfolding ExpressionsArrays
-any-arrays [] = tt
-any-arrays (e ∷ es) = (any-array e, any-arrays es)
+any-names : (es : List Expression) → ExpressionsNames AnyName es
+unfolding ExpressionsNames
+any-names [] = tt
+any-names (e ∷ es) = (any-name e, any-names es)
 
 mutual
-  unfolding StatementArrays BlockArrays
+  unfolding StatementNames BlockNames
 
-  statement-any : (p : ℕ) (s : Statement) → StatementArrays AnyArray p s
-  statement-any p (assign x e) = any-array e
-  statement-any p (store a i e) = (tt, any-array i, any-array e)
-  statement-any p (conditional c a b) = (any-array c, block-any a, block-any b)
-  statement-any p (loop x f t b) = (any-array f, any-array t, block-any b)
-  statement-any p (return e) = any-array e
-  statement-any p (call f x es) = any-arrays es
+  statement-any : (p : ℕ) (s : Statement) → StatementNames AnyName p s
+  statement-any p (assign x e) = any-name e
+  statement-any p (store a i e) = (tt, any-name i, any-name e)
+  statement-any p (conditional c a b) = (any-name c, block-any a, block-any b)
+  statement-any p (loop x f t b) = (any-name f, any-name t, block-any b)
+  statement-any p (return e) = any-name e
+  statement-any p (call f x es) = any-names es
 
-  block-any : (b : Block) → BlockArrays AnyArray b
+  block-any : (b : Block) → BlockNames AnyName b
   block-any done = tt
   block-any (sequence p s b) = (statement-any p s, block-any b)
 
-pub procedures-any : (ps : List Procedure) → ProceduresArrays AnyArray ps
+pub procedures-any : (ps : List Procedure) → ProceduresNames AnyName ps
 procedures-any ps f = block-any (procedureAt ps f .body)
 
 -- ---- a tree without a fault: each array is one of the image's
 
-module _ (N : ℕ → ℕ → Type 0) (arrays : ℕ) where
+module _ (N : ℕ → WordName → Type 0) (arrays : ℕ) where
   -- as before, and there is such an array
-  abbrev pub WithArray : ℕ → ℕ → Type 0
-  WithArray p a = N p a × (a < arrays)
+  abbrev pub WithArray : ℕ → WordName → Type 0
+  WithArray p (named-array a) = N p (named-array a) × (a < arrays)
+  WithArray p (named-operator o) = N p (named-operator o)
 
   module _ (types : List ℕ) where
-    among-expression : (marks : List ℕ) (e : Expression) → sortFaults types arrays marks e ≡ [] → ExpressionArrays N e → ExpressionArrays WithArray e
-    unfolding sortFaults ExpressionArrays
+    among-expression : (marks : List ℕ) (e : Expression) → sortFaults types arrays marks e ≡ [] → ExpressionNames N e → ExpressionNames WithArray e
+    unfolding sortFaults ExpressionNames
     among-expression marks (constant p v) h n = tt
     among-expression marks (boolean p v) h n = tt
     among-expression marks (variable p x) h n = tt
     among-expression marks (cell p a i) h n =
         ((n .0, leb-false arrays a (kept (leb arrays a) 6 p (search empties))), among-expression marks i (search empties) (n .1))
     among-expression marks (unary p o e) h n = among-expression marks e (search empties) n
-    among-expression marks (binary p o e f) h n = (among-expression marks e (search empties) (n .0), among-expression marks f (search empties) (n .1))
+    among-expression marks (binary p o e f) h n =
+        (n .0, among-expression marks e (search empties) (n .1), among-expression marks f (search empties) (n .2))
     among-expression marks (select p c e f) h n = (
       among-expression marks c (search empties) (n .0),
       among-expression marks e (search empties) (n .1),
@@ -116,18 +123,18 @@ module _ (N : ℕ → ℕ → Type 0) (arrays : ℕ) where
     )
 
     among-arguments : (marks callee : List ℕ) (k : ℕ) (es : List Expression) → argumentFaults types arrays marks callee k es ≡ []
-        → ExpressionsArrays N es → ExpressionsArrays WithArray es
-    unfolding argumentFaults ExpressionsArrays
+        → ExpressionsNames N es → ExpressionsNames WithArray es
+    unfolding argumentFaults ExpressionsNames
     among-arguments marks callee k [] h n = tt
     among-arguments marks callee k (e ∷ es) h n =
         (among-expression marks e (search empties) (n .0), among-arguments marks callee (k + 1) es (search empties) (n .1))
 
     module _ (ps : List Procedure) (parameters result : ℕ) where
       mutual
-        unfolding statementSortFaults blockSortFaults StatementArrays BlockArrays
+        unfolding statementSortFaults blockSortFaults StatementNames BlockNames
 
         among-statement : (marks : List ℕ) (p : ℕ) (s : Statement) → statementSortFaults ps parameters types result arrays marks p s ≡ []
-            → StatementArrays N p s → StatementArrays WithArray p s
+            → StatementNames N p s → StatementNames WithArray p s
         among-statement marks p (assign x e) h n = among-expression marks e (search empties) n
         among-statement marks p (store a i e) h n = (
           (n .0, leb-false arrays a (kept (leb arrays a) 6 p (search empties))),
@@ -144,25 +151,26 @@ module _ (N : ℕ → ℕ → Type 0) (arrays : ℕ) where
         among-statement marks p (return e) h n = among-expression marks e (search empties) n
         among-statement marks p (call f x es) h n = among-arguments marks (procedureAt ps f .types) 0 es (search empties) n
 
-        among-block : (marks : List ℕ) (b : Block) → blockSortFaults ps parameters types result arrays marks b ≡ [] → BlockArrays N b → BlockArrays WithArray b
+        among-block : (marks : List ℕ) (b : Block) → blockSortFaults ps parameters types result arrays marks b ≡ [] → BlockNames N b → BlockNames WithArray b
         among-block marks done h n = tt
         among-block marks (sequence p s b) h n = (among-statement marks p s (search empties) (n .0), among-block marks b (search empties) (n .1))
 
-  among-procedures : (ps qs : List Procedure) → proceduresSortFaults ps arrays qs ≡ [] → ProceduresArrays N qs → ProceduresArrays WithArray qs
-  unfolding proceduresSortFaults procedureSortFaults flatMap BlockArrays
+  among-procedures : (ps qs : List Procedure) → proceduresSortFaults ps arrays qs ≡ [] → ProceduresNames N qs → ProceduresNames WithArray qs
+  unfolding proceduresSortFaults procedureSortFaults flatMap BlockNames
   among-procedures ps [] h n f = tt
   among-procedures ps (q ∷ qs) h n zero =
       among-block (q .types) ps (q .parameters) (q .result) _ (q .body) (nil-left _ _ h) (n zero)
   among-procedures ps (q ∷ qs) h n (suc f) = among-procedures ps qs (search empties) (λ g. n (suc g)) f
 
--- ---- a tree that was read: each array is the one that its word names
+-- ---- a tree that was read: each array and operator is the one that its word names
 
 module _ (image : List ℕ) where
-  abbrev pub Names : ℕ → ℕ → Type 0
-  Names p a = NamesArray (getD image p 0) a
+  abbrev pub Names : ℕ → WordName → Type 0
+  Names p (named-array a) = NamesArray (getD image p 0) a
+  Names p (named-operator o) = (kindOf (getD image p 0) ≡ 13) × (payloadOf (getD image p 0) ≡ o)
 
-  expression-names : (l at : ℕ) → Reads (length image) (λ e n. ExpressionArrays Names e) (readExpression l image at)
-  unfolding readExpression ExpressionArrays
+  expression-names : (l at : ℕ) → Reads (length image) (λ e n. ExpressionNames Names e) (readExpression l image at)
+  unfolding readExpression ExpressionNames
   expression-names zero at = reads-word image at expressionWord (λ w. refused 5 at) (λ h g. refuses (too-deep h))
   expression-names (suc l) at =
       reads-word image at expressionWord (λ w. expressionAt (λ a. readExpression l image a) image at w)
@@ -174,20 +182,20 @@ module _ (image : List ℕ) where
       (λ k. rw k (reads tt))
       (λ k. rw k (reads-then (expression-names l (at + 1)) (λ i n x. reads (in-expression k, x))))
       (λ k. rw k (reads-then (expression-names l (at + 1)) (λ e n x. reads x)))
-      (λ k. rw k (reads-then (expression-names l (at + 1)) (λ e n x. reads-then (expression-names l n) (λ f m y. reads (x, y)))))
+      (λ k. rw k (reads-then (expression-names l (at + 1)) (λ e n x. reads-then (expression-names l n) (λ f m y. reads ((k, refl), x, y)))))
       (λ k. rw k (reads-then (expression-names l (at + 1)) (λ c n x. reads-then (expression-names l n)
       (λ e m y. reads-then (expression-names l m) (λ f o z. reads (x, y, z)))))))
 
-  argument-names : (l n at : ℕ) → Reads (length image) (λ es m. ExpressionsArrays Names es) (readArguments n (λ a. readExpression l image a) at)
-  unfolding readArguments ExpressionsArrays
+  argument-names : (l n at : ℕ) → Reads (length image) (λ es m. ExpressionsNames Names es) (readArguments n (λ a. readExpression l image a) at)
+  unfolding readArguments ExpressionsNames
   argument-names l zero at = reads tt
   argument-names l (suc n) at = reads-then (expression-names l at) (λ e m x. reads-then (argument-names l n m) (λ es o y. reads (x, y)))
 
   module _ (params : List ℕ) (me : ℕ) where
-    op-names : (l at : ℕ) (block : Reader Block) → ((a : ℕ) → Reads (length image) (λ b n. BlockArrays Names b) (block a))
+    op-names : (l at : ℕ) (block : Reader Block) → ((a : ℕ) → Reads (length image) (λ b n. BlockNames Names b) (block a))
         → statementWord me (getD image at 0) ≡ true
-        → Reads (length image) (λ s n. StatementArrays Names at s) (statementAt (λ a. readExpression l image a) block params at (getD image at 0))
-    unfolding StatementArrays
+        → Reads (length image) (λ s n. StatementNames Names at s) (statementAt (λ a. readExpression l image a) block params at (getD image at 0))
+    unfolding StatementNames
     op-names l at block b g =
         let w = getD image at 0 in
         let k = statement-kind me w g in
@@ -200,23 +208,23 @@ module _ (image : List ℕ) where
         (λ o. rw o (reads-then (expression-names l (at + 1)) (λ e n x. reads x)))
         (λ o. rw o (reads-then (argument-names l (getD params (calledOf w) 0) (at + 1)) (λ es n x. reads x)))
 
-    statements-names : (n : ℕ) (statement : Reader Statement) → ((a : ℕ) → Reads (length image) (λ s m. StatementArrays Names a s) (statement a)) → (at : ℕ)
-        → Reads (length image) (λ b m. BlockArrays Names b) (readStatements n statement at)
-    unfolding readStatements BlockArrays
+    statements-names : (n : ℕ) (statement : Reader Statement) → ((a : ℕ) → Reads (length image) (λ s m. StatementNames Names a s) (statement a)) → (at : ℕ)
+        → Reads (length image) (λ b m. BlockNames Names b) (readStatements n statement at)
+    unfolding readStatements BlockNames
     statements-names zero statement r at = reads tt
     statements-names (suc n) statement r at = reads-then (r at) (λ s m x. reads-then (statements-names n statement r m) (λ b o y. reads (x, y)))
 
     mutual
       unfolding readStatement readBlock
 
-      statement-names : (l at : ℕ) → Reads (length image) (λ s n. StatementArrays Names at s) (readStatement l params me image at)
+      statement-names : (l at : ℕ) → Reads (length image) (λ s n. StatementNames Names at s) (readStatement l params me image at)
       statement-names zero at = reads-word image at (λ w. statementWord me w) (λ w. refused 5 at) (λ h g. refuses (too-deep h))
       statement-names (suc l) at =
           reads-word image at (λ w. statementWord me w)
           (λ w. statementAt (λ a. readExpression l image a) (λ a. readBlock l params me image a) params at w)
           (λ h g. op-names l at (λ a. readBlock l params me image a) (λ a. block-names l a) g)
 
-      block-names : (l at : ℕ) → Reads (length image) (λ b n. BlockArrays Names b) (readBlock l params me image at)
+      block-names : (l at : ℕ) → Reads (length image) (λ b n. BlockNames Names b) (readBlock l params me image at)
       block-names zero at = reads-word image at blockWord (λ w. refused 5 at) (λ h g. refuses (too-deep h))
       block-names (suc l) at =
           reads-word image at blockWord (λ w. readStatements (payloadOf w) (λ a. readStatement l params me image a) (at + 1))
@@ -233,24 +241,25 @@ arities-known [] f h = absurd (omega arith)
 arities-known (p ∷ ps) zero h = refl
 arities-known (p ∷ ps) (suc f) h = arities-known ps f (omega arith)
 
-no-body : (N : ℕ → ℕ → Type 0) (ps : List Procedure) (f : ℕ) → length ps ≤ f → BlockArrays N (procedureAt ps f .body)
-unfolding BlockArrays
+no-body : (N : ℕ → WordName → Type 0) (ps : List Procedure) (f : ℕ) → length ps ≤ f → BlockNames N (procedureAt ps f .body)
+unfolding BlockNames
 no-body N [] f h = tt
 no-body N (p ∷ ps) zero h = absurd (omega arith)
 no-body N (p ∷ ps) (suc f) h = no-body N ps f (omega arith)
 
 module _ (whole : Bool) (words : List ℕ) (tree : Image) (n : ℕ) (e : readImage whole words ≡ got tree n) where
-  procedures-names : ProceduresArrays (Names words) (tree .procedures)
+  -- each array and operator that an image's tree names is the one that its word names
+  pub procedures-names : ProceduresNames (Names words) (tree .procedures)
   procedures-names f = go (leb (length (tree .procedures)) f) refl
     where
-      go : (b : Bool) → leb (length (tree .procedures)) f ≡ b → BlockArrays (Names words) (procedureAt (tree .procedures) f .body)
+      go : (b : Bool) → leb (length (tree .procedures)) f ≡ b → BlockNames (Names words) (procedureAt (tree .procedures) f .body)
       go true h = no-body (Names words) (tree .procedures) f (leb-true _ _ h)
       go false h =
           let (m, p) = open-image whole words tree n e .each (arities (tree .procedures)) (arities-known (tree .procedures)) f (leb-false _ _ h) in
           let q = procedureAt (tree .procedures) f in
           read-as (rw (p .body) at (block-names words (arities (tree .procedures)) f (largestLevel (tree .form)) (q .place + 1 + 1 + length (q .types))))
 
-  -- each array that an accepted image's tree names is the one that its word names, and one of the image's
-  pub procedures-arrays : imageSortFaults tree ≡ [] → ProceduresArrays (WithArray (Names words) (length (tree .arrays))) (tree .procedures)
+  -- and in an accepted image each array is one of the image's
+  pub procedures-arrays : imageSortFaults tree ≡ [] → ProceduresNames (WithArray (Names words) (length (tree .arrays))) (tree .procedures)
   unfolding imageSortFaults
   procedures-arrays h = among-procedures (Names words) (length (tree .arrays)) (tree .procedures) (tree .procedures) h procedures-names
