@@ -1,6 +1,5 @@
 -- What each way out of the functions below `evaluate` gives. Assumes nothing.
 use mathlib.Core.Path.{_≡_, ap, _∙_}
-use mathlib.Core.Bool.{false}
 use mathlib.Core.List.{List}
 use Prim.Native.Nat.{ℕ, _+_, _≤_, _<_}
 use native.Mathlib.Omega.{arith}
@@ -9,9 +8,9 @@ use lib.Dec.{eqb}
 use lib.ListN.{getD, length-take}
 use Rattle.definitions.specs.Choice.{pick}
 use Rattle.definitions.specs.Image.{arrayLength}
-use Rattle.definitions.specs.Operators.{divides, shifts, applyBinary}
+use Rattle.definitions.specs.Operators.{applyBinary}
 use Rattle.definitions.specs.Running.{emit, divided, shifted, operated}
-use Rattle.laws.specs.OperatorTests.{shift-between, division-between, no-division, no-shift}
+use Rattle.laws.specs.OperatorTests.{shift-no-division, shift-between, division-between, neither-outside}
 use Rattle.tables.specs.Table.{arrayCountIn, arraysIn, baseIn}
 use Rattle.tracing.specs.declared.Value.{Value}
 use Rattle.tracing.specs.declared.Value.the-variants.{Got, Stop}
@@ -103,26 +102,22 @@ module _ (p o a b n : ℕ) where
   module _ (t : Log) (r : Value) (slice : List ℕ) where
     pub operate-shift : 6 ≤ o → o < 9 → evaluation r slice ≡ until n (shifted byteTrace p o a b t) → evaluation r slice ≡ until n (operated byteTrace p o a b t)
     unfolding operated
-    operate-shift h g e = rw (no-division o (λ k. absurd (omega arith)) (λ k. absurd (omega arith)), shift-between o h g) e
+    operate-shift h g e = let s = shift-between o h g in rw (shift-no-division o s, s) e
 
     pub operate-divide : 9 ≤ o → o < 11 → evaluation r slice ≡ until n (divided byteTrace p o a b t) → evaluation r slice ≡ until n (operated byteTrace p o a b t)
     unfolding operated
     operate-divide h g e = rw (division-between o h g) e
 
   module _ (x used : ℕ) (slice : List ℕ) (e : x ≡ applyBinary o a b) where
-    unrecorded : divides o ≡ false → shifts o ≡ false → evaluation (Got x n used) slice ≡ until n (operated byteTrace p o a b (log used slice))
+    unrecorded : (6 ≤ o → 11 ≤ o) → evaluation (Got x n used) slice ≡ until n (operated byteTrace p o a b (log used slice))
     unfolding operated evaluation until
-    unrecorded f g = rw (f, g, e)
+    unrecorded h = let (f, g) = neither-outside o h in rw (f, g, e)
 
     pub operate-below : o < 6 → evaluation (Got x n used) slice ≡ until n (operated byteTrace p o a b (log used slice))
-    operate-below h =
-        unrecorded (no-division o (λ k. absurd (omega arith)) (λ k. absurd (omega arith)))
-        (no-shift o (λ k. absurd (omega arith)) (λ k. absurd (omega arith)) (λ k. absurd (omega arith)))
+    operate-below h = unrecorded (λ g. absurd (omega arith))
 
     pub operate-above : 11 ≤ o → evaluation (Got x n used) slice ≡ until n (operated byteTrace p o a b (log used slice))
-    operate-above h =
-        unrecorded (no-division o (λ k. absurd (omega arith)) (λ k. absurd (omega arith)))
-        (no-shift o (λ k. absurd (omega arith)) (λ k. absurd (omega arith)) (λ k. absurd (omega arith)))
+    operate-above h = unrecorded (λ g. h)
 
 pub ruleset operate·rules = (operate-below, operate-shift, operate-divide, operate-above)
 

@@ -52,8 +52,12 @@ division-between o h g = go (eqb o 9) refl
     go true e = refl
     go false e = let f = eqb-false o 9 e in let k : o ≡ 10 = omega arith in rw k
 
-pub no-division : (o : ℕ) → (o ≡ 9 → ⊥) → (o ≡ 10 → ⊥) → divides o ≡ false
-no-division o f g = rw (ne-eqb o 9 f, ne-eqb o 10 g)
-
-pub no-shift : (o : ℕ) → (o ≡ 6 → ⊥) → (o ≡ 7 → ⊥) → (o ≡ 8 → ⊥) → shifts o ≡ false
-no-shift o f g h = rw (ne-eqb o 6 f, ne-eqb o 7 g, ne-eqb o 8 h)
+-- before 6 and from 11 on an operator neither divides nor shifts
+pub neither-outside : (o : ℕ) → (6 ≤ o → 11 ≤ o) → (divides o ≡ false) × (shifts o ≡ false)
+neither-outside o h = (
+  rw (other 9 (omega arith) (omega arith), other 10 (omega arith) (omega arith)),
+  rw (other 6 (omega arith) (omega arith), other 7 (omega arith) (omega arith), other 8 (omega arith) (omega arith)),
+)
+  where
+    other : (n : ℕ) → 6 ≤ n → n < 11 → eqb o n ≡ false
+    other n i j = ne-eqb o n (λ e. absurd (let k : 11 ≤ o = h (omega arith) in omega arith))

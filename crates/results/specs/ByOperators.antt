@@ -1,7 +1,7 @@
 -- A run by given operators (FormerTraces, of the statements) is the definitions' run, where these do what the definitions' operators do. Assumes nothing.
 use mathlib.Core.Path.{_≡_, refl, sym, _∙_}
 use mathlib.Core.Bool.{true≢false}
-use mathlib.Core.List.{List}
+use mathlib.Core.List.{List, []}
 use Prim.Native.Nat.{ℕ}
 use native.Mathlib.Omega.{arith}
 use Rattle.definitions.specs.Image.{Procedure}
@@ -52,9 +52,11 @@ module _ {T : Type 0} (C : Trace T) (budget : ℕ) where
   same-procedure N operate operates arrays ps m n f ws z t cs =
       same-runs (procedure-runs (one-trace T) keeps-one arrays N operate operates (anywhere-procedures ps) m n f ws z t t cs .same refl)
 
-  -- by today's operators
+  -- today's operators do so
+  pub by-today : Operates (one-trace T) C (operated C) Anywhere AnyName
+  by-today = operated-both (one-trace T) keeps-one [] (λ kind l v y s u _. emits kind l v y s u) AnyName
+
   pub by-procedure : (arrays : List ℕ) (ps : List Procedure) (n f : ℕ) (ws : List ℕ) (z : ℕ) (t : T) (cs : List ℕ)
       → runProcedureBy (operated C) C budget arrays ps n f ws z t cs ≡ runProcedure C budget arrays ps n f ws z t cs
   by-procedure arrays ps n f ws z t cs =
-      same-procedure AnyName (operated C) (operated-both (one-trace T) keeps-one arrays (λ kind l v y s u _. emits kind l v y s u) AnyName) arrays ps
-      (procedures-any ps) n f ws z t cs
+      same-procedure AnyName (operated C) by-today arrays ps (procedures-any ps) n f ws z t cs

@@ -15,6 +15,8 @@ use Rattle.definitions.specs.declared.Answer.the-variants.{Stopped, Refused}
 use Rattle.definitions.specs.Operators.{divides, shifts, applyBinary}
 use Rattle.definitions.specs.Image.{kindOf, payloadOf, formOf, Procedure, Image, procedureAt}
 use Rattle.definitions.specs.Running.{Trace, traceWords, value, stop, bind, Ran, emit, divided, shifted, operated, Given, gave}
+use Rattle.definitions.specs.Reading.{got}
+use Rattle.definitions.specs.Checking.{admitted}
 use Rattle.definitions.specs.Requests.{Called, argumentValues, ended, readyToServe, servedCall, calledOn, call}
 use Rattle.definitions.specs.Host.{wholeWords, callBytes}
 use Rattle.statements.specs.Statements.{stepsOf, recordedCount, recorded}
@@ -28,13 +30,13 @@ use Rattle.laws.specs.Trees.{Anywhere}
 use Rattle.laws.specs.Tests.{and-right}
 use Rattle.laws.specs.OperatorTests.{shift-no-division}
 use Rattle.laws.specs.ReadImages.{ImageWords, open-image}
-use Rattle.results.specs.WordsNamed.{WordName, named-operator, Names, procedures-names}
+use Rattle.results.specs.WordsNamed.{WordName, named-operator, ProceduresNames, AnyName, procedures-any, Names, procedures-names}
 use Rattle.results.specs.SideBySide.{Comparison, SameValue, both-value, both-stop}
 use Rattle.results.specs.SideBySide.{first-stop, BothEvaluate, SameRun, both-on, both-halt, first-halt, Keeps, Operates}
 use Rattle.results.specs.SideBySide.{evaluates, divided-both, procedure-runs}
 use Rattle.results.specs.MoreWords.{More, no-more, more-behind, more-rest, more-splits, emitted-more}
 use Rattle.results.specs.TwoCalls.{steps-ended, trace-ended, words-ended, recorded-lent, both-called}
-use Rattle.results.specs.ByOperators.{one-trace, keeps-one, same-procedure, by-procedure}
+use Rattle.results.specs.ByOperators.{one-trace, keeps-one, by-today, same-procedure}
 
 -- ---- a trace without its entries of kind 9
 
@@ -256,29 +258,27 @@ module _ (whole : Bool) (words cells : List ℕ) (f : ℕ) (arguments : List ℕ
             (argumentValues (p .types) arguments) 0 [] [] cells .same (no-pair, refl));
       })
 
-  by-call : callBy operated ≡ call whole words cells f arguments budget room
+  -- where given operators do what today's do, the call by them is today's
+  same-call : (N : ℕ → WordName → Type 0) (operate : Trace (List ℕ) → Operation (List ℕ))
+      → Operates (one-trace (List ℕ)) (traceWords room) (operate (traceWords room)) Anywhere N
+      → ((tree : Image) (n : ℕ) → admitted whole words ≡ got tree n → ProceduresNames N (tree .procedures))
+      → callBy operate ≡ call whole words cells f arguments budget room
   unfolding call calledOn calledOnBy
-  by-call =
+  same-call N operate operates names =
       both-called (λ x y. x ≡ y) whole words cells f arguments (λ k p. refl) _ _
       (λ tree n e. ap (ended (procedureAt (tree .procedures) f) cells)
-      (by-procedure (traceWords room) budget (tree .arrays) (tree .procedures) (length (tree .procedures)) f
-      (argumentValues (procedureAt (tree .procedures) f .types) arguments) 0 [] cells))
+      (same-procedure (traceWords room) budget N (operate (traceWords room)) operates (tree .arrays) (tree .procedures) (names tree n e)
+      (length (tree .procedures)) f (argumentValues (procedureAt (tree .procedures) f .types) arguments) 0 [] cells))
 
-  -- where no word names a shift, the former operators do what today's do
-  module _ (none : noShift words ≡ true) where
-    no-shift-operates : Operates (one-trace (List ℕ)) (traceWords room) (formerOperated (traceWords room)) Anywhere (Names words)
-    no-shift-operates =
-        former-operates (one-trace (List ℕ)) (keeps-one (traceWords room) budget) (Names words)
-        (λ l o v w z t u i n e. absurd (no-shift-named words none l (n .0) (rw (n .1) e)))
+  by-call : callBy operated ≡ call whole words cells f arguments budget room
+  by-call = same-call AnyName operated (by-today (traceWords room) budget) (λ tree n e. procedures-any (tree .procedures))
 
-    no-shift-call : callBy formerOperated ≡ call whole words cells f arguments budget room
-    unfolding call calledOn calledOnBy
-    no-shift-call =
-        both-called (λ x y. x ≡ y) whole words cells f arguments (λ k p. refl) _ _
-        (λ tree n e. ap (ended (procedureAt (tree .procedures) f) cells)
-        (same-procedure (traceWords room) budget (Names words) (formerOperated (traceWords room)) no-shift-operates (tree .arrays) (tree .procedures)
-        (procedures-names whole words tree n (admitted-read whole words tree n e .0)) (length (tree .procedures)) f
-        (argumentValues (procedureAt (tree .procedures) f .types) arguments) 0 [] cells))
+  no-shift-call : noShift words ≡ true → callBy formerOperated ≡ call whole words cells f arguments budget room
+  no-shift-call none =
+      same-call (Names words) formerOperated
+      (former-operates (one-trace (List ℕ)) (keeps-one (traceWords room) budget) (Names words)
+      (λ l o v w z t u i n e. absurd (no-shift-named words none l (n .0) (rw (n .1) e))))
+      (λ tree n e. procedures-names whole words tree n (admitted-read whole words tree n e .0))
 
 -- ---- the two calls, on lent bytes
 
