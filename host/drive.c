@@ -6,7 +6,8 @@
  *   checkbytes HEX        compilebytes CAP HEX      loadbytes HEX     (an image in bytes)
  *   describe CAP W..      describebytes CAP HEX
  *   new COUNT             fill VALUE                cells             (the cell slice that this host lends)
- *   poke ARRAY INDEX VALUE    peek ARRAY INDEX    clear    call PROCEDURE BUDGET TRACECAP ARGUMENT..
+ *   poke ARRAY INDEX VALUE    peek ARRAY INDEX    clear
+ *   call PROCEDURE BUDGET TRACECAP ARGUMENT..     preview PROCEDURE BUDGET TRACECAP ARGUMENT..
  */
 #include <stdio.h>
 #include <stdlib.h>
@@ -18,7 +19,7 @@
 /* A longer cell slice is not tried: `new` answers `error` rather than taking all memory. */
 #define MOST_LENT_CELLS (1u << 24)
 
-/* the length in words of the trace slice that a call is first lent */
+/* the length in words of the trace slice that a call or preview is first lent */
 #define FIRST_TRACE 4096
 
 /* a slice to lend; `at` is never null once it has been given a length */
@@ -96,7 +97,7 @@ static bool image_in(struct request *line, struct slice *image)
     return true;
 }
 
-/* the arguments of a call as words; on false nothing is left to free */
+/* the arguments of a call or preview as words; on false nothing is left to free */
 static bool arguments_in(struct fields *line, struct slice *arguments)
 {
     struct field field;
@@ -269,21 +270,39 @@ static bool on_peek(struct session *session, struct request *line)
     return true;
 }
 
-/*
- * Runs a call with a trace slice of `room` words. A shorter slice is lent first, since few traces are long: a run that
- * it does not stop with 22 is the same with a longer one, and one that it does leaves the cells for another try.
- */
-static struct tinesage_answer run(struct session *session, uint32_t procedure, struct slice arguments, uint32_t budget,
-                                  uint64_t room, struct slice *trace)
+/* what a call is given beside the image, the cells and the trace; a preview is given the same */
+struct call {
+    bool preview;
+    uint32_t procedure, budget;
+    struct slice arguments;
+};
+
+/* the one place where a call and a preview part: a preview only reads the cells */
+static struct tinesage_answer lend(const struct session *session, const struct call *call, struct slice trace)
 {
-    const struct slice image = session->image, cells = session->cells;
+    const struct slice image = session->image, cells = session->cells, arguments = call->arguments;
+    uint8_t answer[TINESAGE_ANSWER];
+    if (call->preview)
+        tinesage_preview(image.at, image.length, cells.at, cells.length, call->procedure, arguments.at,
+                         arguments.length, call->budget, trace.at, trace.length, answer, sizeof answer);
+    else
+        tinesage_call(image.at, image.length, cells.at, cells.length, call->procedure, arguments.at, arguments.length,
+                      call->budget, trace.at, trace.length, answer, sizeof answer);
+    return tinesage_read_answer(answer);
+}
+
+/*
+ * Runs a call or preview with a trace slice of `room` words. A shorter slice is lent first, since few traces are long:
+ * a run that it does not stop with 22 is the same with a longer one, and one that it does leaves the cells for another
+ * try.
+ */
+static struct tinesage_answer run(const struct session *session, const struct call *call, uint64_t room,
+                                  struct slice *trace)
+{
     uint64_t lent = room < FIRST_TRACE ? room : FIRST_TRACE;
     for (;;) {
-        uint8_t answer[TINESAGE_ANSWER];
         *trace = allocate(lent > SIZE_MAX / 4 ? SIZE_MAX : 4 * (size_t)lent);
-        tinesage_call(image.at, image.length, cells.at, cells.length, procedure, arguments.at, arguments.length, budget,
-                      trace->at, trace->length, answer, sizeof answer);
-        struct tinesage_answer a = tinesage_read_answer(answer);
+        struct tinesage_answer a = lend(session, call, *trace);
         if (a.status != TINESAGE_STOPPED || a.number != TINESAGE_STOP_TRACE_FULL || lent == room)
             return a;
         free(trace->at);
@@ -291,19 +310,21 @@ static struct tinesage_answer run(struct session *session, uint32_t procedure, s
     }
 }
 
+/* call, and preview */
 static bool on_call(struct session *session, struct request *line)
 {
-    uint32_t procedure, budget;
+    struct call call = {.preview = field_is(line->name, "preview")};
     uint64_t room;
-    struct slice arguments, trace;
-    if (!next_u32(&line->rest, &procedure) || !next_u32(&line->rest, &budget) || !next_number(&line->rest, &room))
+    struct slice trace;
+    if (!next_u32(&line->rest, &call.procedure) || !next_u32(&line->rest, &call.budget) ||
+        !next_number(&line->rest, &room))
         return false;
-    if (!arguments_in(&line->rest, &arguments))
+    if (!arguments_in(&line->rest, &call.arguments))
         return false;
-    struct tinesage_answer a = run(session, procedure, arguments, budget, room, &trace);
+    struct tinesage_answer a = run(session, &call, room, &trace);
     print_call(a, trace.at);
     free(trace.at);
-    free(arguments.at);
+    free(call.arguments.at);
     return true;
 }
 
@@ -355,7 +376,7 @@ static const struct handler handlers[] = {
     {"check", on_check},       {"checkbytes", on_check},       {"compile", on_compile}, {"compilebytes", on_compile},
     {"describe", on_describe}, {"describebytes", on_describe}, {"load", on_load},       {"loadbytes", on_load},
     {"new", on_new},           {"fill", on_fill},              {"cells", on_cells},     {"clear", on_clear},
-    {"poke", on_poke},         {"peek", on_peek},              {"call", on_call},
+    {"poke", on_poke},         {"peek", on_peek},              {"call", on_call},       {"preview", on_call},
 };
 
 static bool answer_request(struct session *session, struct request *line)

@@ -1,7 +1,8 @@
 /*
  * A short host. It compiles the paper's example image, loads source and compiled form in turn, and calls each with two
  * values of its secret parameter: the source's trace tells them apart, the compiled form's does not. Then it loads an
- * image with an array, pokes its cells and calls the procedure that adds them up.
+ * image with an array, pokes its cells and calls the procedure that adds them up, with a trace slice just as long as a
+ * preview says that it has to be.
  */
 #include <stdio.h>
 #include <stdlib.h>
@@ -10,6 +11,7 @@
 #include "tinesage.h"
 
 #define TRACE_WORDS 64
+#define BUDGET 100
 
 /* One secret parameter: returns 1 where it is 7, else 0. */
 static const uint32_t example[] = {
@@ -23,10 +25,11 @@ static const uint32_t adder[] = {
     0x70000004, 0x50000001, 0x60000001, 0xD0000000, 0xA0000001, 0xB0000000, 0xA0000000, 0x60040000, 0xA0000001,
 };
 
-/* what this host lends with each request */
+/* what this host lends */
 static uint8_t image[4 * TINESAGE_MOST_WORDS];
 static size_t image_length;
 static uint8_t cells[4 * TINESAGE_MOST_CELLS];
+static uint8_t trace[4 * TRACE_WORDS];
 
 static void take_image(const uint32_t *words, size_t count)
 {
@@ -68,7 +71,7 @@ static void print_image(void)
     puts("");
 }
 
-static void print_trace(const uint8_t *trace, uint64_t count)
+static void print_trace(uint64_t count)
 {
     static const char *const kinds[] = {
         [TINESAGE_TRACE_BRANCH] = "branch",     [TINESAGE_TRACE_LOOP_FROM] = "loop from",
@@ -84,26 +87,47 @@ static void print_trace(const uint8_t *trace, uint64_t count)
     }
 }
 
-/* calls procedure 0 with at most 100 steps */
-static void call(const char *title, const uint32_t *values, size_t count)
+/* calls procedure 0, with so many trace words */
+static void call(const char *title, const uint32_t *values, size_t count, size_t trace_words)
 {
-    uint8_t arguments[4 * TINESAGE_MOST_ARGUMENTS], trace[4 * TRACE_WORDS], answer[TINESAGE_ANSWER];
+    uint8_t arguments[4 * TINESAGE_MOST_ARGUMENTS], answer[TINESAGE_ANSWER];
     for (size_t i = 0; i < count; i++)
         tinesage_put_word(arguments, i, values[i]);
-    tinesage_call(image, image_length, cells, sizeof cells, 0, arguments, 4 * count, 100, trace, sizeof trace, answer,
-                  sizeof answer);
+    tinesage_call(image, image_length, cells, sizeof cells, 0, arguments, 4 * count, BUDGET, trace, 4 * trace_words,
+                  answer, sizeof answer);
     struct tinesage_answer a = tinesage_read_answer(answer);
     if (a.status == TINESAGE_DONE)
         printf("  %s: %u in %u steps\n", title, (unsigned)a.result, (unsigned)a.steps);
     else
         printf("  %s: number %u at word %u\n", title, (unsigned)a.number, (unsigned)a.place);
-    print_trace(trace, a.count);
+    print_trace(a.count);
 }
 
 static void call_with_7_and_6(void)
 {
-    call("argument 7", (const uint32_t[]){7}, 1);
-    call("argument 6", (const uint32_t[]){6}, 1);
+    call("argument 7", (const uint32_t[]){7}, 1, TRACE_WORDS);
+    call("argument 6", (const uint32_t[]){6}, 1, TRACE_WORDS);
+}
+
+/*
+ * The trace words that a call of procedure 0 without arguments needs. A preview whose trace is full is made again with
+ * twice as many: no cell has changed.
+ */
+static size_t previewed_words(void)
+{
+    uint8_t answer[TINESAGE_ANSWER];
+    struct tinesage_answer a;
+    size_t words = 4;
+    do {
+        words *= 2;
+        tinesage_preview(image, image_length, cells, sizeof cells, 0, NULL, 0, BUDGET, trace, 4 * words, answer,
+                         sizeof answer);
+        a = tinesage_read_answer(answer);
+        printf("  preview with %u trace words: %u recorded%s\n", (unsigned)words, (unsigned)a.count,
+               a.number == TINESAGE_STOP_TRACE_FULL ? ", trace full" : "");
+    } while (a.number == TINESAGE_STOP_TRACE_FULL && 2 * words <= TRACE_WORDS);
+    expect_done("preview", a);
+    return (size_t)a.count;
 }
 
 static void add_up(void)
@@ -115,7 +139,7 @@ static void add_up(void)
         tinesage_poke(image, image_length, cells, sizeof cells, 0, i, 10 * (i + 1), answer, sizeof answer);
         expect_done("poke", tinesage_read_answer(answer));
     }
-    call("cells 10, 20, 30, 40", NULL, 0);
+    call("cells 10, 20, 30, 40", NULL, 0, previewed_words());
 }
 
 int main(void)

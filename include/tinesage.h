@@ -24,9 +24,9 @@
  *     stopped    1    number   place   0        steps   count
  *     refused    2    number   place   0        0       0
  *
- * `count` is two words, the high one first: the trace words recorded by a call, the words written
- * to `out`, else 0. A place is the number of an image word, from 0. docs/REFUSALS.md has an
- * example for each number.
+ * `count` is two words, the high one first: the trace words recorded by a call or a preview, the
+ * words written to `out`, else 0. A place is the number of an image word, from 0. docs/REFUSALS.md
+ * has an example for each number.
  */
 #ifndef TINESAGE_H
 #define TINESAGE_H
@@ -40,9 +40,9 @@ extern "C" {
 
 /* The version of this interface. A new major number may break a host, a new minor number adds. */
 #define TINESAGE_VERSION_MAJOR 2
-#define TINESAGE_VERSION_MINOR 0
+#define TINESAGE_VERSION_MINOR 1
 #define TINESAGE_VERSION_PATCH 0
-#define TINESAGE_VERSION "2.0.0"
+#define TINESAGE_VERSION "2.1.0"
 
 /* ---- sizes ---- */
 
@@ -67,7 +67,7 @@ extern "C" {
 /* the first word of an answer */
 enum tinesage_status {
     TINESAGE_DONE = 0,
-    TINESAGE_STOPPED = 1, /* a call ended early; the cells are as before it */
+    TINESAGE_STOPPED = 1, /* a call or preview ended early; the cells are as before it */
     TINESAGE_REFUSED = 2  /* nothing was done */
 };
 
@@ -291,6 +291,24 @@ void tinesage_call(const uint8_t *image, size_t image_len, uint8_t *cells, size_
                    uint32_t procedure, const uint8_t *arguments, size_t arguments_len,
                    uint32_t budget, uint8_t *trace, size_t trace_len, uint8_t *answer,
                    size_t answer_len);
+
+/*
+ * Previews a call: answers and records what tinesage_call would with the same slices and numbers,
+ * and leaves every cell. `cells` is only read, so it may lie in memory that cannot be written.
+ *
+ * Done, stopped and refused: as by tinesage_call, with the same result, number, place, steps and
+ * count.
+ * Written: the answer; the first `count` words of `trace`, as by tinesage_call.
+ *
+ * How long a trace a call needs: unless the preview is stopped with 22, the call with the same
+ * cells, arguments and budget records `count` words too, and a trace slice of 4 * count bytes is
+ * enough for it. With a slice that is too short the preview is stopped with 22, as the call would
+ * be; the host lends a longer one and asks again, since nothing has changed.
+ */
+void tinesage_preview(const uint8_t *image, size_t image_len, const uint8_t *cells,
+                      size_t cells_len, uint32_t procedure, const uint8_t *arguments,
+                      size_t arguments_len, uint32_t budget, uint8_t *trace, size_t trace_len,
+                      uint8_t *answer, size_t answer_len);
 
 #ifdef __cplusplus
 }

@@ -150,6 +150,11 @@ static void call(struct lending *l)
     tinesage_call(LENT(IMAGE), LENT(CELLS), 0, LENT(ARGUMENTS), 1000, LENT(TRACE), LENT(ANSWER));
 }
 
+static void preview(struct lending *l)
+{
+    tinesage_preview(LENT(IMAGE), LENT(CELLS), 0, LENT(ARGUMENTS), 1000, LENT(TRACE), LENT(ANSWER));
+}
+
 static const struct function functions[] = {
     {"check", 1 << IMAGE | 1 << ANSWER, check},
     {"compile", 1 << IMAGE | 1 << OUT | 1 << ANSWER, compile},
@@ -159,6 +164,7 @@ static const struct function functions[] = {
     {"poke", 1 << IMAGE | 1 << CELLS | 1 << ANSWER, poke},
     {"peek", 1 << IMAGE | 1 << CELLS | 1 << ANSWER, peek},
     {"call", 1 << IMAGE | 1 << CELLS | 1 << ARGUMENTS | 1 << TRACE | 1 << ANSWER, call},
+    {"preview", 1 << IMAGE | 1 << CELLS | 1 << ARGUMENTS | 1 << TRACE | 1 << ANSWER, preview},
 };
 
 /* ---- what is due ---- */
@@ -183,7 +189,7 @@ static uint32_t number_due(const struct function *f, const struct image *image, 
         return TINESAGE_REFUSAL_OUT_OF_RANGE;
     if ((f->run == poke || f->run == peek) && image->cells == 0)
         return TINESAGE_REFUSAL_OUT_OF_RANGE;
-    if (f->run == call)
+    if (f->run == call || f->run == preview)
         return number_of_call(image, empty);
     return (f->slices & 1 << OUT) != 0 && (empty & 1 << OUT) != 0 ? TINESAGE_REFUSAL_OUTPUT_TOO_SHORT : 0;
 }

@@ -189,6 +189,31 @@ static void shift_count_case(void)
     expect("and recorded before that", e.kind == TINESAGE_TRACE_SHIFT_COUNT && e.place == 5 && e.value == 33);
 }
 
+/* a store of 7 in cell 0 and a return of it: three entries, which a preview counts and which a call needs room for */
+static void sized_trace_cases(void)
+{
+    static const uint32_t words[] = {0x10000101, 0x20000001, 0x30000000, 0x40000000, 0x50000002, 0x60010000,
+                                     0x70000000, 0x70000007, 0x60040000, 0xB0000000, 0x70000000};
+    uint8_t cells[4] = {0}, trace[16 * TINESAGE_TRACE_ENTRY], answer[TINESAGE_ANSWER];
+    count = 0;
+    for (size_t i = 0; i < sizeof words / sizeof words[0]; i++)
+        push(words[i]);
+    tinesage_preview(image, 4 * count, cells, sizeof cells, 0, NULL, 0, 2, trace, sizeof trace, answer, sizeof answer);
+    struct tinesage_answer previewed = tinesage_read_answer(answer);
+    size_t length = 4 * (size_t)previewed.count;
+    expect("a preview counts the trace words",
+           previewed.status == TINESAGE_DONE && previewed.result == 7 && previewed.count == 6);
+    expect("and stores nothing", tinesage_word(cells, 0) == 0);
+    tinesage_preview(image, 4 * count, cells, sizeof cells, 0, NULL, 0, 2, trace, length - 1, answer, sizeof answer);
+    expect("a trace a byte shorter stops it", tinesage_read_answer(answer).number == TINESAGE_STOP_TRACE_FULL);
+    tinesage_call(image, 4 * count, cells, sizeof cells, 0, NULL, 0, 2, trace, length - 1, answer, sizeof answer);
+    expect("and the call", tinesage_read_answer(answer).number == TINESAGE_STOP_TRACE_FULL);
+    tinesage_call(image, 4 * count, cells, sizeof cells, 0, NULL, 0, 2, trace, length, answer, sizeof answer);
+    struct tinesage_answer called = tinesage_read_answer(answer);
+    expect("one of that length does not", called.status == TINESAGE_DONE && called.result == 7 &&
+                                              called.count == previewed.count && tinesage_word(cells, 0) == 7);
+}
+
 int main(void)
 {
     word_cases();
@@ -198,6 +223,7 @@ int main(void)
     limit_cases();
     entry_length_cases();
     shift_count_case();
+    sized_trace_cases();
     printf("%u passed, %u failed\n", passed, failed);
     return failed == 0 ? EXIT_SUCCESS : EXIT_FAILURE;
 }

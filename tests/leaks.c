@@ -1,6 +1,7 @@
 /*
- * Stands between tests/secrets.c and the library (linker option --wrap=tinesage_call) and lets the first argument of a
- * call show in the way that the environment variable LEAK names, so that tests/secrets can see that it is reported.
+ * Stands between tests/secrets.c and the library (linker options --wrap=tinesage_call and --wrap=tinesage_preview) and
+ * lets the first argument of a call show in the way that the environment variable LEAK names, so that tests/secrets can
+ * see that it is reported; with LEAK_IN=preview that of a preview, and no call's.
  */
 #include <stdbool.h>
 #include <stdlib.h>
@@ -8,13 +9,19 @@
 
 #include "tinesage.h"
 
-/* the linker gives these two names */
+/* the linker gives these names */
 void __real_tinesage_call(const uint8_t *image, size_t image_len, uint8_t *cells, size_t cells_len, uint32_t procedure,
                           const uint8_t *arguments, size_t arguments_len, uint32_t budget, uint8_t *trace,
                           size_t trace_len, uint8_t *answer, size_t answer_len);
 void __wrap_tinesage_call(const uint8_t *image, size_t image_len, uint8_t *cells, size_t cells_len, uint32_t procedure,
                           const uint8_t *arguments, size_t arguments_len, uint32_t budget, uint8_t *trace,
                           size_t trace_len, uint8_t *answer, size_t answer_len);
+void __real_tinesage_preview(const uint8_t *image, size_t image_len, const uint8_t *cells, size_t cells_len,
+                             uint32_t procedure, const uint8_t *arguments, size_t arguments_len, uint32_t budget,
+                             uint8_t *trace, size_t trace_len, uint8_t *answer, size_t answer_len);
+void __wrap_tinesage_preview(const uint8_t *image, size_t image_len, const uint8_t *cells, size_t cells_len,
+                             uint32_t procedure, const uint8_t *arguments, size_t arguments_len, uint32_t budget,
+                             uint8_t *trace, size_t trace_len, uint8_t *answer, size_t answer_len);
 
 /* the empty statement keeps the compiler from making a select of the branch */
 static __attribute__((noinline)) void leak_by_branch(uint32_t secret)
@@ -43,29 +50,64 @@ static bool leaks(const char *how)
     return chosen != NULL && strcmp(chosen, how) == 0;
 }
 
+/* whether it is this function that leaks */
+static bool leaking(const char *function)
+{
+    const char *chosen = getenv("LEAK_IN");
+    return strcmp(function, chosen == NULL ? "call" : chosen) == 0;
+}
+
+static uint32_t first_argument(const uint8_t *arguments, size_t arguments_len)
+{
+    return arguments_len < 4 ? 0 : tinesage_word(arguments, 0);
+}
+
+static void leak_by_way(uint32_t secret)
+{
+    if (leaks("branch"))
+        leak_by_branch(secret);
+    if (leaks("index"))
+        leak_by_index(secret);
+}
+
 /* by name, the words of an answer; the count's low word */
-static void leak_into_answer(uint8_t *answer, uint32_t secret)
+static void leak_into_written(uint8_t *trace, size_t trace_len, uint8_t *answer, uint32_t secret)
 {
     static const char *const names[] = {"status", "number", "place", "result", "steps", "", "count"};
     for (size_t i = 0; i < sizeof names / sizeof names[0]; i++)
         if (leaks(names[i]))
             leak_into(answer, i, secret);
+    if (leaks("trace") && trace_len >= 8)
+        leak_into(trace, 1, secret);
 }
 
 void __wrap_tinesage_call(const uint8_t *image, size_t image_len, uint8_t *cells, size_t cells_len, uint32_t procedure,
                           const uint8_t *arguments, size_t arguments_len, uint32_t budget, uint8_t *trace,
                           size_t trace_len, uint8_t *answer, size_t answer_len)
 {
-    uint32_t secret = arguments_len < 4 ? 0 : tinesage_word(arguments, 0);
-    if (leaks("branch"))
-        leak_by_branch(secret);
-    if (leaks("index"))
-        leak_by_index(secret);
+    uint32_t secret = first_argument(arguments, arguments_len);
+    bool leak = leaking("call");
+    if (leak)
+        leak_by_way(secret);
     __real_tinesage_call(image, image_len, cells, cells_len, procedure, arguments, arguments_len, budget, trace,
                          trace_len, answer, answer_len);
-    leak_into_answer(answer, secret);
-    if (leaks("trace") && trace_len >= 8)
-        leak_into(trace, 1, secret);
-    if (leaks("cells"))
+    if (leak)
+        leak_into_written(trace, trace_len, answer, secret);
+    if (leak && leaks("cells"))
         leak_into(cells, 0, secret);
+}
+
+/* it only reads the cells, so nothing can show there */
+void __wrap_tinesage_preview(const uint8_t *image, size_t image_len, const uint8_t *cells, size_t cells_len,
+                             uint32_t procedure, const uint8_t *arguments, size_t arguments_len, uint32_t budget,
+                             uint8_t *trace, size_t trace_len, uint8_t *answer, size_t answer_len)
+{
+    uint32_t secret = first_argument(arguments, arguments_len);
+    bool leak = leaking("preview");
+    if (leak)
+        leak_by_way(secret);
+    __real_tinesage_preview(image, image_len, cells, cells_len, procedure, arguments, arguments_len, budget, trace,
+                            trace_len, answer, answer_len);
+    if (leak)
+        leak_into_written(trace, trace_len, answer, secret);
 }

@@ -1,10 +1,15 @@
 /*
  * What each lent byte holds after a request: slices with spare words and odd lengths, slices that are too short for the
- * answer, refusals and stops. Prints 'N passed, M failed' as its last line.
+ * answer, refusals and stops. A preview is held to the call with the same arguments: the same bytes, and no cell.
+ * Prints 'N passed, M failed' as its last line; a preview that writes to cells which it may only read ends the program
+ * before that line.
  */
+#include <signal.h>
 #include <stdio.h>
 #include <stdlib.h>
 #include <string.h>
+#include <sys/mman.h>
+#include <unistd.h>
 
 #include "tinesage.h"
 
@@ -351,8 +356,170 @@ static void answer_cases(void)
     }
 }
 
+/* ---- previews ---- */
+
+/*
+ * Two cells, one parameter x: cell 1 := x; then a return of cell x divided by x, which stops with 24 where x is 0 and
+ * with 23 where it is above 1.
+ */
+static const uint32_t divider_words[] = {
+    0x10000101, 0x20000002, 0x30000100, 0x40000000, 0x40000000, 0x50000002, 0x60010000,
+    0x70000001, 0xA0000000, 0x60040000, 0xD0000009, 0xB0000000, 0xA0000000, 0xA0000000,
+};
+#define DIVIDER_WORDS (sizeof divider_words / sizeof divider_words[0])
+#define BLOCK_WORD 5
+
+/* so many statements that are never begun follow the return: for each length the library has arrays of its own */
+static const uint32_t unused_statements[] = {0, 100, 600};
+
+static uint8_t divider[4 * (DIVIDER_WORDS + 2 * 600)];
+static size_t divider_length;
+
+static void make_divider(uint32_t unused)
+{
+    size_t count = 0;
+    for (; count < DIVIDER_WORDS; count++)
+        tinesage_put_word(divider, count, divider_words[count] + (count == BLOCK_WORD ? unused : 0));
+    for (uint32_t i = 0; i < unused; i++) {
+        tinesage_put_word(divider, count++, 0x60000000);
+        tinesage_put_word(divider, count++, 0x70000000);
+    }
+    divider_length = 4 * count;
+}
+
+/* what a call and its preview are lent, in bytes, and the number that both have to answer, 0 for a result */
+struct run {
+    const char *what;
+    uint32_t number;
+    size_t image, cells;
+    uint32_t procedure, argument;
+    size_t arguments;
+    uint32_t budget;
+    size_t trace;
+};
+
+#define ALL SIZE_MAX
+
+static const struct run runs[] = {
+    /* number, image, cells, procedure, argument, arguments, budget, trace */
+    {"a result", 0, ALL, CELLS_LENT, 0, 1, 4, 2, LONGEST},
+    {"a result, the trace just long enough", 0, ALL, CELLS_LENT, 0, 1, 4, 2, 40},
+    {"a result, with spare bytes", 0, ALL, 11, 0, 1, 7, 2, 43},
+    {"budget spent before the first step", 21, ALL, CELLS_LENT, 0, 1, 4, 0, LONGEST},
+    {"budget spent", 21, ALL, CELLS_LENT, 0, 1, 4, 1, LONGEST},
+    {"no trace", 22, ALL, CELLS_LENT, 0, 1, 4, 2, 0},
+    {"trace full", 22, ALL, CELLS_LENT, 0, 1, 4, 2, 39},
+    {"index beyond the array", 23, ALL, CELLS_LENT, 0, 2, 4, 2, LONGEST},
+    {"divisor 0", 24, ALL, CELLS_LENT, 0, 0, 4, 2, LONGEST},
+    {"no image", 20, 0, CELLS_LENT, 0, 1, 4, 2, LONGEST},
+    {"not whole words", 1, 55, CELLS_LENT, 0, 1, 4, 2, LONGEST},
+    {"a word is missing", 3, 52, CELLS_LENT, 0, 1, 4, 2, LONGEST},
+    {"few cells", 17, ALL, 7, 0, 1, 4, 2, LONGEST},
+    {"no such procedure", 17, ALL, CELLS_LENT, 1, 1, 4, 2, LONGEST},
+    {"an argument is missing", 18, ALL, CELLS_LENT, 0, 1, 3, 2, LONGEST},
+    {"an argument too many", 18, ALL, CELLS_LENT, 0, 1, 8, 2, LONGEST},
+};
+
+/* short of an answer, and with spare bytes behind it */
+static const size_t answer_lengths[] = {0, TINESAGE_ANSWER - 1, TINESAGE_ANSWER, TINESAGE_ANSWER + 3};
+
+static size_t run_image(const struct run *r)
+{
+    return r->image == ALL ? divider_length : r->image;
+}
+
+static void preview_run(const struct run *r, const uint8_t *lent_cells)
+{
+    uint8_t arguments[12] = {0};
+    tinesage_put_word(arguments, 0, r->argument);
+    tinesage_preview(divider, run_image(r), lent_cells, r->cells, r->procedure, arguments, r->arguments, r->budget,
+                     trace.lent, r->trace, answer.lent, answer_length);
+}
+
+static void call_run(const struct run *r)
+{
+    uint8_t arguments[12] = {0};
+    tinesage_put_word(arguments, 0, r->argument);
+    tinesage_call(divider, run_image(r), cells.lent, r->cells, r->procedure, arguments, r->arguments, r->budget,
+                  trace.lent, r->trace, answer.lent, answer_length);
+}
+
+/* cells in a page of their own, which is made read-only; as long as a page of the processor */
+#define PAGE 4096
+static _Alignas(PAGE) uint8_t read_only[PAGE];
+
+/* what the run under way is; a fault would else end the program without a word */
+static const char *under_way;
+
+static void on_fault(int signal)
+{
+    static const char text[] = "FAILED: a preview writes to its cells: ";
+    (void)signal;
+    if (write(STDOUT_FILENO, text, sizeof text - 1) < 0 || write(STDOUT_FILENO, under_way, strlen(under_way)) < 0)
+        _exit(2);
+    _exit(1);
+}
+
+static void expect_named(const char *what, const struct run *r, int holds)
+{
+    char text[128];
+    snprintf(text, sizeof text, "%s: %s", what, r->what);
+    expect(text, holds);
+}
+
+/* the bytes that the call writes are what the preview has to write */
+static void expect_previewed(const struct run *r)
+{
+    struct watched answered, recorded;
+    preview_run(r, cells.lent);
+    expect_named("preview: every cell stays", r, as_expected(&cells));
+    answered = answer;
+    recorded = trace;
+    reset(&answer);
+    reset(&trace);
+    preview_run(r, read_only);
+    int again = memcmp(answered.lent, answer.lent, LONGEST) == 0 && memcmp(recorded.lent, trace.lent, LONGEST) == 0;
+    expect_named("preview: the same again, with cells that cannot be written", r, again);
+    reset(&answer);
+    reset(&trace);
+    call_run(r);
+    expect_named("preview: the call's answer", r, memcmp(answered.lent, answer.lent, LONGEST) == 0);
+    expect_named("preview: the call's trace", r, memcmp(recorded.lent, trace.lent, LONGEST) == 0);
+}
+
+/* what the call does beside: it ends as the table has it, and stores only where it ends with a result */
+static void expect_called(const struct run *r)
+{
+    if (answer_length >= TINESAGE_ANSWER)
+        expect_named("call: its number", r, tinesage_read_answer(answer.lent).number == r->number);
+    if (r->number == 0)
+        tinesage_put_word(cells.expected, 1, r->argument);
+    expect_named("call: its cells", r, as_expected(&cells));
+}
+
+static void preview_cases(void)
+{
+    reset(&cells);
+    memcpy(read_only, cells.lent, LONGEST);
+    expect("the page cannot be written", mprotect(read_only, PAGE, PROT_READ) == 0);
+    signal(SIGSEGV, on_fault);
+    for (size_t i = 0; i < sizeof unused_statements / sizeof unused_statements[0]; i++) {
+        make_divider(unused_statements[i]);
+        for (size_t k = 0; k < sizeof runs / sizeof runs[0]; k++) {
+            for (size_t n = 0; n < sizeof answer_lengths / sizeof answer_lengths[0]; n++) {
+                under_way = runs[k].what;
+                reset_all();
+                answer_length = answer_lengths[n];
+                expect_previewed(&runs[k]);
+                expect_called(&runs[k]);
+            }
+        }
+    }
+}
+
 int main(void)
 {
+    setvbuf(stdout, NULL, _IOLBF, 0);
     for (size_t i = 0; i < WRITER_WORDS; i++)
         tinesage_put_word(writer, i, writer_words[i]);
     check_cases();
@@ -365,6 +532,7 @@ int main(void)
     full_trace_cases();
     stop_and_refusal_cases();
     answer_cases();
+    preview_cases();
     printf("%u passed, %u failed\n", passed, failed);
     return failed == 0 ? EXIT_SUCCESS : EXIT_FAILURE;
 }

@@ -2,11 +2,11 @@
  * The machine code held to the third property, as far as valgrind's memcheck can see.
  *
  * Reads request lines and takes the images of their check, compile and load requests; those in source form are compiled
- * first. On each image it sends load, poke, peek, clear and call requests. Before each of them, every byte that the
- * third property lets differ between two machines is marked as undefined: secret arguments, words poked into secret
- * cells, the cells of secret arrays, what a trace slice holds before a call and what the cells hold before a load.
- * Memcheck then reports every branch and every address that depends on one of them, and afterwards all that the
- * property calls equal has to be defined.
+ * first. On each image it sends load, poke, peek, clear, call and preview requests. Before each of them, every byte
+ * that the third property lets differ between two machines is marked as undefined: secret arguments, words poked into
+ * secret cells, the cells of secret arrays, what a trace slice holds before a call or preview and what the cells hold
+ * before a load. Memcheck then reports every branch and every address that depends on one of them, and afterwards all
+ * that the property calls equal has to be defined.
  *
  *   valgrind target/secrets SEED <REQUESTS
  *   valgrind target/secrets SEED as-they-are <REQUESTS     images in source form are run without compiling
@@ -106,7 +106,8 @@ static void read_outline(void)
 
 /* ---- marks and reports ---- */
 
-static unsigned long long images, requests, calls_done, calls_stopped, calls_refused, secret_words, reported_requests;
+static unsigned long long images, requests, calls_done, calls_stopped, calls_refused, previews, secret_words,
+    reported_requests;
 static unsigned reports;
 
 /* what a slice holds before a request that writes it: memory left over, which no answer may depend on */
@@ -239,13 +240,13 @@ static void peek(uint32_t array)
     judge("peek", array);
 }
 
-/* what a call is given beside the image and the cells */
+/* what a call is given beside the image and the cells; a preview is given the same */
 struct call {
     uint32_t number, arguments, budget, trace_words;
     uint8_t argument[4 * MOST_ARGUMENTS];
 };
 
-static struct tinesage_answer run(struct call *call)
+static struct tinesage_answer run(struct call *call, bool preview)
 {
     const struct procedure *procedure = &outline.procedure[call->number];
     hide_secret_cells();
@@ -254,12 +255,18 @@ static struct tinesage_answer run(struct call *call)
     for (uint32_t i = 0; i < procedure->parameters; i++)
         if (procedure->secret[i])
             hide_secret(call->argument + 4 * i, 4);
-    tinesage_call(image, image_length, cells, sizeof cells, call->number, call->argument, 4 * (size_t)call->arguments,
-                  call->budget, trace, 4 * (size_t)call->trace_words, answer, sizeof answer);
+    if (preview)
+        tinesage_preview(image, image_length, cells, sizeof cells, call->number, call->argument,
+                         4 * (size_t)call->arguments, call->budget, trace, 4 * (size_t)call->trace_words, answer,
+                         sizeof answer);
+    else
+        tinesage_call(image, image_length, cells, sizeof cells, call->number, call->argument,
+                      4 * (size_t)call->arguments, call->budget, trace, 4 * (size_t)call->trace_words, answer,
+                      sizeof answer);
     struct tinesage_answer a = expect_answer(procedure->secret_result);
     expect_public(trace, 4 * (size_t)a.count);
     expect_public_cells();
-    judge("call", call->number);
+    judge(preview ? "preview" : "call", call->number);
     return a;
 }
 
@@ -271,6 +278,18 @@ static void count_call(struct tinesage_answer a)
         calls_stopped++;
     else
         calls_refused++;
+}
+
+/* at times previewed first, as by a host that asks how long a trace it needs */
+static struct tinesage_answer call_once(struct call *call)
+{
+    if (below(3) == 0) {
+        run(call, true);
+        previews++;
+    }
+    struct tinesage_answer a = run(call, false);
+    count_call(a);
+    return a;
 }
 
 /* the last procedure can reach most of the others */
@@ -289,13 +308,12 @@ static void call_twice(void)
         call.arguments += 1;
     for (uint32_t i = 0; i < MOST_ARGUMENTS; i++)
         tinesage_put_word(call.argument, i, random_word());
-    struct tinesage_answer a = run(&call);
-    count_call(a);
+    struct tinesage_answer a = call_once(&call);
     if (below(2) == 0)
         call.budget = below(a.steps + 1);
     else
         call.trace_words = below((uint32_t)a.count + 1);
-    count_call(run(&call));
+    call_once(&call);
 }
 
 static void session(void)
@@ -379,8 +397,8 @@ int main(int count, char **arguments)
     while ((length = getline(&text, &room, stdin)) > 0)
         take_line(text, (size_t)length, as_they_are);
     free(text);
-    printf("%llu images, %llu requests, %llu calls done, %llu stopped, %llu refused, %llu secret words, "
+    printf("%llu images, %llu requests, %llu calls done, %llu stopped, %llu refused, %llu previews, %llu secret words, "
            "%llu requests reported\n",
-           images, requests, calls_done, calls_stopped, calls_refused, secret_words, reported_requests);
+           images, requests, calls_done, calls_stopped, calls_refused, previews, secret_words, reported_requests);
     return reported_requests == 0 ? EXIT_SUCCESS : EXIT_FAILURE;
 }

@@ -26,6 +26,20 @@ extern "C" {
         answer: *mut u8,
         answer_len: usize,
     );
+    fn tinesage_preview(
+        image: *const u8,
+        image_len: usize,
+        cells: *const u8,
+        cells_len: usize,
+        procedure: u32,
+        arguments: *const u8,
+        arguments_len: usize,
+        budget: u32,
+        trace: *mut u8,
+        trace_len: usize,
+        answer: *mut u8,
+        answer_len: usize,
+    );
 }
 
 type AnswerBytes = [u8; 28];
@@ -77,5 +91,30 @@ pub fn call(image: &[u8], cells: &mut [u8], call: &Call, trace: &mut [u8]) -> An
             answer.len(),
         );
     }
-    Answer { done: word(&answer, 0) == 0, result: word(&answer, 3), steps: word(&answer, 4) }
+    answered(&answer)
+}
+
+pub fn preview(image: &[u8], cells: &[u8], call: &Call, trace: &mut [u8]) -> Answer {
+    let mut answer = [0; 28];
+    unsafe {
+        tinesage_preview(
+            image.as_ptr(),
+            image.len(),
+            cells.as_ptr(),
+            cells.len(),
+            0,
+            call.arguments.as_ptr(),
+            call.arguments.len(),
+            u32::MAX,
+            trace.as_mut_ptr(),
+            trace.len(),
+            answer.as_mut_ptr(),
+            answer.len(),
+        );
+    }
+    answered(&answer)
+}
+
+fn answered(answer: &AnswerBytes) -> Answer {
+    Answer { done: word(answer, 0) == 0, result: word(answer, 3), steps: word(answer, 4) }
 }

@@ -1,11 +1,11 @@
 //! Compares the speed of the proved library with that of the second program,
 //! on the same images and requests.
 //!
-//! Prints three tables: rates side by side, how the time grows when the work
-//! doubles, and checks of fors inside each other. `bench/draw` makes a picture
-//! of the first two. Each request checks its image
-//! anew, on both sides, as the machine asks. The lent buffers are allocated
-//! once and not cleared between two runs.
+//! Prints four tables: rates side by side, how the time grows when the work
+//! doubles, checks of fors inside each other, and the library's previews beside
+//! its calls. `bench/draw` makes a picture of the first two. Each request checks
+//! its image anew, on both sides, as the machine asks. The lent buffers are
+//! allocated once and not cleared between two runs.
 
 #[allow(dead_code)]
 #[path = "../../second/src/check.rs"]
@@ -42,7 +42,7 @@ mod workloads;
 
 use std::process::ExitCode;
 
-use measure::{growth_table, nesting_table, rate_table};
+use measure::{growth_table, nesting_table, preview_table, rate_table};
 
 fn main() -> ExitCode {
     // fewer passes make a quick trial
@@ -54,5 +54,6 @@ fn main() -> ExitCode {
     rate_table(passes);
     growth_table(passes);
     nesting_table();
+    preview_table(passes);
     ExitCode::SUCCESS
 }

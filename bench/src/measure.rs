@@ -1,4 +1,4 @@
-//! Times, and the two tables.
+//! Times, and the tables.
 
 use std::hint::black_box;
 use std::time::{Duration, Instant};
@@ -47,15 +47,21 @@ impl<T, F: FnMut() -> T> Sampler<F> {
     }
 }
 
-/// The least time of one run on each side. The sides take turns, so that a busy machine is no advantage to one.
-fn least_times<T, U>(library: impl FnMut() -> T, second: impl FnMut() -> U) -> Pair {
-    let (mut library, mut second) = (Sampler::new(library), Sampler::new(second));
+/// The least time of one run of each job. The two take turns, so that a busy machine is no advantage to one.
+fn least_of_both<T, U>(one: impl FnMut() -> T, other: impl FnMut() -> U) -> (f64, f64) {
+    let (mut one, mut other) = (Sampler::new(one), Sampler::new(other));
     let begin = Instant::now();
-    while begin.elapsed() < Duration::from_secs(1) || library.least.is_infinite() {
-        library.sample();
-        second.sample();
+    while begin.elapsed() < Duration::from_secs(1) || one.least.is_infinite() {
+        one.sample();
+        other.sample();
     }
-    Pair { library: library.least, second: second.least }
+    (one.least, other.least)
+}
+
+/// The least time of one run on each side.
+fn least_times<T, U>(library: impl FnMut() -> T, second: impl FnMut() -> U) -> Pair {
+    let (library, second) = least_of_both(library, second);
+    Pair { library, second }
 }
 
 fn time_check(image: &[u8]) -> Pair {
@@ -212,4 +218,39 @@ pub fn nesting_table() {
             );
         }
     }
+}
+
+// ---- previews ----
+
+/// A preview beside the call that it previews, both by the library; each has a trace slice of its own.
+fn preview_row(title: &str, image: &[u8], call: &Call) {
+    let (mut called, mut previewed) = (vec![0; 4 * TRACE_WORDS], vec![0; 4 * TRACE_WORDS]);
+    let (mut cells, kept) = (vec![0; 4 * call.cells], vec![0; 4 * call.cells]);
+    let answer = library::preview(image, &kept, call, &mut previewed);
+    assert!(answer.done && answer == library::call(image, &mut cells, call, &mut called));
+    assert!(called == previewed, "traces differ");
+    let (of_call, of_preview) = least_of_both(
+        || library::call(black_box(image), &mut cells, call, &mut called),
+        || library::preview(black_box(image), &kept, call, &mut previewed),
+    );
+    println!(
+        "| {title} ({} words) | {:.2} | {:.2} | {:.3} |",
+        image.len() / 4,
+        of_call * 1e6,
+        of_preview * 1e6,
+        of_preview / of_call
+    );
+}
+
+pub fn preview_table(passes: u32) {
+    println!();
+    println!("| call | call, microseconds | preview, microseconds | preview / call |");
+    println!("| --- | ---: | ---: | ---: |");
+    for workload in [small_routine(), long_source(4096)] {
+        preview_row(&format!("{}, source", workload.name), &workload.image, &workload.call);
+        let compiled = compiled_form(&workload.image);
+        preview_row(&format!("{}, compiled", workload.name), &compiled, &workload.call);
+    }
+    let workload = mixed(passes / 8);
+    preview_row(&format!("{}, source", workload.name), &workload.image, &workload.call);
 }

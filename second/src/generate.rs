@@ -42,6 +42,11 @@ const SLIPS: [Slip; 10] = [
     Slip::Any,
 ];
 
+/// What is sent with one set of arguments, budget and trace slice: mostly a
+/// call, else a preview alone, or one before or after the call.
+const RUNS: [&[&str]; 6] =
+    [&["call"], &["call"], &["call"], &["preview"], &["preview", "call"], &["call", "preview"]];
+
 /// What a session has to know of an image to ask sensible things of it.
 #[derive(Default)]
 struct Outline {
@@ -350,7 +355,7 @@ impl<W: Write> Generator<W> {
                     let image = [random_word(&mut self.random)];
                     self.send_image("load", &image)?;
                 }
-                _ => self.call(outline)?,
+                _ => self.run(outline)?,
             }
         }
         self.send("cells".to_string()).map(|_| ())
@@ -380,18 +385,23 @@ impl<W: Write> Generator<W> {
         (array, self.random.below(length + beyond_cells))
     }
 
-    /// A call, and often the same again with a budget or a trace slice that
-    /// ends close to where the first one ended, or at a shift.
-    fn call(&mut self, outline: &Outline) -> io::Result<()> {
+    /// A call or a preview or both, and often one of them again with a budget
+    /// or a trace slice that ends close to where the last one ended, or at a
+    /// shift.
+    fn run(&mut self, outline: &Outline) -> io::Result<()> {
         let procedure = self.procedure(outline);
         let parameters = outline.parameters.get(procedure as usize).copied().unwrap_or(1);
         let arguments = self.arguments(parameters);
         let (budget, capacity) = self.allowance();
-        let answer = self.send(format!("call {procedure} {budget} {capacity}{arguments}"))?;
+        let mut answer = String::new();
+        for request in self.random.pick(&RUNS).unwrap_or(RUNS[0]) {
+            answer = self.send(format!("{request} {procedure} {budget} {capacity}{arguments}"))?;
+        }
         if self.random.chance(30) {
             if let Some((steps, trace)) = steps_and_trace(&answer) {
                 let (budget, capacity) = self.close_allowance(steps, &trace);
-                self.send(format!("call {procedure} {budget} {capacity}{arguments}"))?;
+                let request = self.random.pick(&["call", "preview"]).unwrap_or("call");
+                self.send(format!("{request} {procedure} {budget} {capacity}{arguments}"))?;
             }
         }
         Ok(())
@@ -455,7 +465,7 @@ impl<W: Write> Generator<W> {
     }
 }
 
-/// The steps and the trace words in the answer to a call.
+/// The steps and the trace words in the answer to a call or preview.
 fn steps_and_trace(answer: &str) -> Option<(u32, Vec<&str>)> {
     let (head, trace) = answer.split_once('|')?;
     let steps = head.split_ascii_whitespace().last()?.parse().ok()?;

@@ -1,15 +1,19 @@
 //! The machine: an image in force, cells that outlive calls, and the requests
 //! a host makes (refusals 17, 18 and 20).
 
+use std::rc::Rc;
+
 use crate::check::check;
 use crate::image::Image;
 use crate::interpreter::{run, Outcome};
 use crate::refusal::{Code, Refusal};
 
 /// The cells are a slice the host lends; it may hold words past the image's
-/// own cells, and those are never touched.
+/// own cells, and those are never touched. A copy shares the image, which no
+/// request changes.
+#[derive(Clone)]
 pub struct Machine {
-    image: Option<Image>,
+    image: Option<Rc<Image>>,
     cells: Vec<u32>,
 }
 
@@ -34,7 +38,7 @@ impl Machine {
             return Err(Refusal::whole(Code::NoSuchTarget));
         };
         own.fill(0);
-        self.image = Some(image);
+        self.image = Some(Rc::new(image));
         Ok(())
     }
 
@@ -62,7 +66,7 @@ impl Machine {
         trace_capacity: u64,
         arguments: &[u32],
     ) -> Result<Outcome, Refusal> {
-        let image = self.image.as_ref().ok_or(Refusal::whole(Code::NothingLoaded))?;
+        let image = self.image.as_deref().ok_or(Refusal::whole(Code::NothingLoaded))?;
         let Some(called) = image.procedures.get(procedure as usize) else {
             return Err(Refusal::whole(Code::NoSuchTarget));
         };
@@ -78,10 +82,21 @@ impl Machine {
         Ok(outcome)
     }
 
+    /// The call, made on a copy of the machine.
+    pub fn preview(
+        &self,
+        procedure: u32,
+        budget: u32,
+        trace_capacity: u64,
+        arguments: &[u32],
+    ) -> Result<Outcome, Refusal> {
+        self.clone().call(procedure, budget, trace_capacity, arguments)
+    }
+
     /// The image was checked when it was loaded and has not changed since, so
     /// checking it anew at each request would answer the same.
     fn image(&self) -> Result<&Image, Refusal> {
-        self.image.as_ref().ok_or(Refusal::whole(Code::NothingLoaded))
+        self.image.as_deref().ok_or(Refusal::whole(Code::NothingLoaded))
     }
 
     fn cell(&self, array: u32, index: u32) -> Result<usize, Refusal> {

@@ -73,7 +73,7 @@ impl Driver {
                 let image = parse_image(name, &fields)?;
                 Some(plain(self.machine.load(&image)))
             }
-            "call" => self.call(&fields),
+            "call" | "preview" => self.run(name, &fields),
             _ => self.cell_request(name, &fields),
         }
     }
@@ -110,17 +110,20 @@ impl Driver {
         })
     }
 
-    fn call(&mut self, fields: &[&str]) -> Option<String> {
+    /// A call or a preview.
+    fn run(&mut self, name: &str, fields: &[&str]) -> Option<String> {
         let [procedure, budget, trace_capacity, arguments @ ..] = fields else { return None };
+        let (procedure, budget) = (parse_u32(procedure)?, parse_u32(budget)?);
+        let trace_capacity = parse_number(trace_capacity)?;
         let arguments: Option<Vec<u32>> =
             arguments.iter().map(|argument| parse_u32(argument)).collect();
-        let called = self.machine.call(
-            parse_u32(procedure)?,
-            parse_u32(budget)?,
-            parse_number(trace_capacity)?,
-            &arguments?,
-        );
-        Some(match called {
+        let arguments = arguments?;
+        let answer = if name == "preview" {
+            self.machine.preview(procedure, budget, trace_capacity, &arguments)
+        } else {
+            self.machine.call(procedure, budget, trace_capacity, &arguments)
+        };
+        Some(match answer {
             Ok(outcome) => outcome_line(&outcome),
             Err(refusal) => refused(refusal),
         })

@@ -7,7 +7,9 @@ use native.Mathlib.Omega.{arith}
 use lib.ListN.{length, length-take}
 use Rattle.definitions.specs.Bytes.{wordsOf}
 use Rattle.definitions.specs.Checking.{admitted}
-use Rattle.definitions.specs.Host.{wholeWords, loadBytes, clearBytes, pokeBytes, peekBytes, callBytes, checkBytes, compileBytes, describeBytes}
+use Rattle.definitions.specs.Host.{wholeWords, loadBytes, clearBytes, pokeBytes, peekBytes, callBytes, previewBytes, checkBytes, compileBytes}
+use Rattle.definitions.specs.Host.{describeBytes}
+use Rattle.laws.specs.Previews.{previewed-answer}
 use Rattle.requests.specs.LongImages.{front, wholeAndShort, same-admitted}
 use Rattle.results.specs.Named.{answerPlace, checkedPlace, compiledPlace}
 use Rattle.results.specs.Images.{Admits, admits-image, checked-within, compiled-within, described-within}
@@ -56,3 +58,7 @@ module _ (image : List ℕ) where
     unfolding callBytes
     call-place f arguments budget trace =
         fits (calls-within (calls-image (wholeWords image) (wordsOf image) admits-front (wordsOf cells) f (wordsOf arguments) budget (length (wordsOf trace))))
+
+    pub preview-place : (f : ℕ) (arguments : List ℕ) (budget : ℕ) (trace : List ℕ)
+        → answerPlace (previewBytes image cells f arguments budget trace .0) < 4294967296
+    preview-place f arguments budget trace = rw (previewed-answer image cells f arguments budget trace) (call-place f arguments budget trace)

@@ -17,7 +17,7 @@ use Rattle.definitions.specs.declared.Compiled.the-variants.{Written, Re
 use Rattle.definitions.specs.Checking.{checked}
 use Rattle.definitions.specs.Compiling.{compiled}
 use Rattle.definitions.specs.Describing.{described}
-use Rattle.definitions.specs.Requests.{Served, Called, load, clear, poke, peek, call}
+use Rattle.definitions.specs.Requests.{Served, Called, load, clear, poke, peek, call, preview}
 
 -- whether bytes are whole words: "not whole words" is 1 for an image
 abbrev pub wholeWords : List ℕ → Bool
@@ -44,6 +44,13 @@ unfoldable pub callBytes : List ℕ → List ℕ → ℕ → List ℕ → ℕ �
 callBytes image cells f arguments budget trace =
     let r : Called =
     call (wholeWords image) (wordsOf image) (wordsOf cells) f (wordsOf arguments) budget (length (wordsOf trace)) in
+    (r .0, lent cells (r .1), lent trace (r .2))
+
+-- cells that are lent to be read, and a trace that is written as by a call
+unfoldable pub previewBytes : List ℕ → List ℕ → ℕ → List ℕ → ℕ → List ℕ → Answer × List ℕ × List ℕ
+previewBytes image cells f arguments budget trace =
+    let r : Called =
+    preview (wholeWords image) (wordsOf image) (wordsOf cells) f (wordsOf arguments) budget (length (wordsOf trace)) in
     (r .0, lent cells (r .1), lent trace (r .2))
 
 unfoldable pub checkBytes : List ℕ → Checked

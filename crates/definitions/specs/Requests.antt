@@ -1,6 +1,6 @@
 -- Document 01, "The machine" and "From the image or request": the requests load, poke, peek, clear and call, with the
--- refusals 17, 18 and 20. "With every request it lends the image and the cells, arrays in order." Each request gives
--- its answer and what the lent cells, and a call's lent trace, hold afterwards.
+-- refusals 17, 18 and 20; document 02, wish 7: preview. "With every request it lends the image and the cells, arrays in
+-- order." Each request gives its answer and what the lent cells, and a call's or preview's lent trace, hold afterwards.
 use Prim.Native.Nat.{ℕ, _+_}
 use mathlib.Core.Bool.{Bool, _&&_}
 use mathlib.Core.List.{List, [], _∷_, _++_}
@@ -107,3 +107,9 @@ servedCall (unready n p) cells f = (Refused n p, cells, [])
 unfoldable pub call : Bool → List ℕ → List ℕ → ℕ → List ℕ → ℕ → ℕ → Called
 call whole image cells f arguments budget room =
     servedCall (readyToServe whole image (length cells)) cells (λ m. calledOn m cells f arguments budget room)
+
+-- Document 02, wish 7: "A preview takes a call's arguments, budget and trace buffer, gives the same answer, stop, steps
+-- and entries, and leaves every cell. It equals making the call on a copy of the machine."
+unfoldable pub preview : Bool → List ℕ → List ℕ → ℕ → List ℕ → ℕ → ℕ → Called
+preview whole image cells f arguments budget room =
+    let r : Called = call whole image cells f arguments budget room in (r .0, cells, r .2)

@@ -14,6 +14,7 @@ pub mod OperatorTests
 pub mod Parameters
 pub mod Parses
 pub mod Places
+pub mod Previews
 pub mod Ready
 pub mod ReadImages
 pub mod Reads

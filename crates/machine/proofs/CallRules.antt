@@ -5,20 +5,19 @@ use Prim.Native.Nat.{ℕ, suc, _+_, _-_, _/_, _≤_, _<_}
 use native.Mathlib.Omega.{arith}
 use lib.ListN.{length, getD, take, drop}
 use Rattle.definitions.specs.Bytes.{wordsOf}
-use Rattle.definitions.specs.Image.{proceduresOf, Image}
+use Rattle.definitions.specs.Image.{proceduresOf}
 use Rattle.definitions.specs.Running.{frame}
 use Rattle.definitions.specs.Requests.{argumentValues, calledOn}
+use Rattle.definitions.specs.declared.Answer.{Answer}
 use Rattle.definitions.specs.declared.Answer.the-variants.{Refused}
 use Rattle.laws.specs.ImageIn.{imageIn}
-use Rattle.tables.specs.Table.{placeIn, bodyIn, paramsIn, padded}
+use Rattle.tables.specs.Table.{placeIn, bodyIn, paramsIn, padded, Known}
 use Rattle.tables.specs.Looking.{Listed, procedureIn, count-is, known-arity, known-limits, known-part, known-within, body-place, form-small}
+use Rattle.reader.specs.Ends.{BlockEnds}
 use Rattle.runner.specs.Runs.{Ready, nine}
 use Rattle.runner.specs.Callees.{nine-padded}
 use Rattle.laws.specs.WordsOfBytes.{length-wordsOf}
-use Rattle.machine.specs.declared.Machine.{Machine}
-use Rattle.machine.specs.declared.Turn.{Turn}
-use Rattle.machine.specs.Turns.{held}
-use Rattle.machine.specs.Serving.{Serves, ranOn, TurnedCall}
+use Rattle.machine.specs.Serving.{ranOn, ownIn, Outcome}
 use Rattle.machine.proofs.TurnRules.{no-procedure, wrong-count, called-runs, ran-framed}
 
 length-values : (types vs : List ℕ) → length (argumentValues types vs) ≡ length vs
@@ -65,47 +64,49 @@ module _ (image table : List ℕ) (f : ℕ) (k : Listed image table f) (argument
 
 -- ---- the run
 
-pub run-ready : (image table ends : List ℕ) (f count : ℕ) → Serves image table ends count → Listed image table f → Ready image table ends f
-run-ready image table ends f count s k = record { listed = k; blockEnds = s .blockEnds }
-
-pub run-given : (m : Machine) (r : Turn) (before after : List ℕ) (tree : Image) (f : ℕ) (ws values : List ℕ) (budget room : ℕ)
-    → values ≡ padded 9 ws → length ws ≤ 9 → TurnedCall m r before after (ranOn tree (held m) f (nine values) budget room)
-    → TurnedCall m r before after (ranOn tree (held m) f ws budget room)
-run-given m r before after tree f ws values budget room e h t =
-    rw (← (ran-framed tree (held m) f (nine values) ws budget room (ap (λ (x : List ℕ). frame (nine x)) e ∙ nine-padded ws h))) t
+pub run-given : (image cells cells′ : List ℕ) (r : Answer) (before after : List ℕ) (f : ℕ) (ws values : List ℕ) (budget room : ℕ)
+    → values ≡ padded 9 ws → length ws ≤ 9
+    → Outcome image cells cells′ r before after (ranOn (imageIn image) (ownIn image cells) f (nine values) budget room)
+    → Outcome image cells cells′ r before after (ranOn (imageIn image) (ownIn image cells) f ws budget room)
+run-given image cells cells′ r before after f ws values budget room e h t =
+    rw (← (ran-framed (imageIn image) (ownIn image cells) f (nine values) ws budget room (ap (λ (x : List ℕ). frame (nine x)) e ∙ nine-padded ws h))) t
 
 -- ---- the call
 
-module _ (m : Machine) (image table ends : List ℕ) (s : Serves image table ends (m .count)) (f : ℕ) (arguments : List ℕ)
-    (count : ℕ) (c : count ≡ proceduresOf (getD image 0 0)) where
-  pub call-listed : f < count → Listed image table f
-  call-listed h = let n = count-is image table (s .known) in record { known = s .known; number = omega arith }
+module _ (image table : List ℕ) (known : Known image table) (f : ℕ) (arguments : List ℕ) (count : ℕ) (c : count ≡ proceduresOf (getD image 0 0)) where
+  call-listed : f < count → Listed image table f
+  call-listed h = let n = count-is image table known in record { known = known; number = omega arith }
 
-  module _ (budget : ℕ) (before : List ℕ) where
+  pub call-ready : (ends : List ℕ) → BlockEnds image (paramsIn table) ends → f < count → Ready image table ends f
+  call-ready ends blockEnds h = record { listed = call-listed h; blockEnds = blockEnds }
+
+  module _ (cells : List ℕ) (budget : ℕ) (before : List ℕ) where
     pub call-none : count ≤ f
-        → TurnedCall m (record { machine = m; answer = Refused 17 0 }) before before
-        (calledOn (imageIn image) (held m) f (wordsOf arguments) budget (length (wordsOf before)))
+        → Outcome image cells cells (Refused 17 0) before before
+        (calledOn (imageIn image) (ownIn image cells) f (wordsOf arguments) budget (length (wordsOf before)))
     call-none h =
-        let n = count-is image table (s .known) in
-        no-procedure m (imageIn image) f (wordsOf arguments) budget (length (wordsOf before)) before (omega arith)
+        let n = count-is image table known in
+        no-procedure image cells f (wordsOf arguments) budget (length (wordsOf before)) before (omega arith)
 
     module _ (h : f < count) (p n : ℕ) (ep : p ≡ getD (paramsIn table) f 0) (en : n ≡ p) where
       same-count : n ≡ procedureIn image f .parameters
-      same-count = en ∙ ep ∙ known-arity image table (s .known) f (call-listed h .number)
+      same-count = en ∙ ep ∙ known-arity image table known f (call-listed h .number)
 
       pub call-count : (length arguments / 4 ≡ n → ⊥)
-          → TurnedCall m (record { machine = m; answer = Refused 18 0 }) before before
-          (calledOn (imageIn image) (held m) f (wordsOf arguments) budget (length (wordsOf before)))
+          → Outcome image cells cells (Refused 18 0) before before
+          (calledOn (imageIn image) (ownIn image cells) f (wordsOf arguments) budget (length (wordsOf before)))
       call-count g =
-          wrong-count m (imageIn image) f (wordsOf arguments) budget (length (wordsOf before)) before (call-listed h .number)
+          wrong-count image cells f (wordsOf arguments) budget (length (wordsOf before)) before (call-listed h .number)
           (λ q. g (sym (length-wordsOf arguments) ∙ q ∙ sym same-count))
 
-      pub call-ran : length arguments / 4 ≡ n → (r : Turn) (after : List ℕ)
-          → TurnedCall m r before after (ranOn (imageIn image) (held m) f (argumentValues (procedureIn image f .types) (wordsOf arguments)) budget (length before / 4))
-          → TurnedCall m r before after (calledOn (imageIn image) (held m) f (wordsOf arguments) budget (length (wordsOf before)))
-      call-ran g r after t =
+      pub call-ran : length arguments / 4 ≡ n → (cells′ : List ℕ) (r : Answer) (after : List ℕ)
+          → Outcome image cells cells′ r before after
+          (ranOn (imageIn image) (ownIn image cells) f (argumentValues (procedureIn image f .types) (wordsOf arguments)) budget (length before / 4))
+          → Outcome image cells cells′ r before after
+          (calledOn (imageIn image) (ownIn image cells) f (wordsOf arguments) budget (length (wordsOf before)))
+      call-ran g cells′ r after t =
           rw (
-            called-runs (imageIn image) (held m) f (wordsOf arguments) budget (length (wordsOf before)) (call-listed h .number)
+            called-runs (imageIn image) (ownIn image cells) f (wordsOf arguments) budget (length (wordsOf before)) (call-listed h .number)
                 (length-wordsOf arguments ∙ g ∙ same-count),
             length-wordsOf before,
           ) t

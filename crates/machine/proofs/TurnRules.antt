@@ -1,26 +1,28 @@
 -- How a call ends: refused, stopped, or with a result. Assumes nothing.
 use mathlib.Core.Path.{_≡_, refl, sym, ap, _∙_}
 use mathlib.Core.Bool.{Bool, true, false}
-use mathlib.Core.List.{List, [], _++_, append-nil}
+use mathlib.Core.List.{List, [], _++_}
 use Prim.Native.Nat.{ℕ, zero, suc, _≤_, _<_}
 use native.Mathlib.Omega.{arith}
 use borrow.Author.Tests.{lt-ltb, le-ltb, eq-eqb, ne-eqb}
 use lib.Dec.{eqb}
-use lib.ListN.{length, drop, length-append, length-replicate, take-append-drop}
+use lib.ListN.{length, drop, take-append-drop}
 use lib.Seq.{take-at, length-take-le}
 use Rattle.definitions.specs.Choice.{pick}
 use Rattle.definitions.specs.Bytes.{bytesOf, lent}
 use Rattle.definitions.specs.Image.{cellCount, Image, Procedure, procedureAt}
 use Rattle.definitions.specs.Running.{Trace, traceWords, Ran, andGo, Given, runBlock, frame, finish, runProcedure}
 use Rattle.definitions.specs.Requests.{answered, argumentValues, ended, calledOn}
+use Rattle.definitions.specs.declared.Answer.{Answer}
 use Rattle.definitions.specs.declared.Answer.the-variants.{Done, Stopped, Refused}
+use Rattle.laws.specs.ImageIn.{imageIn}
 use Rattle.requests.specs.SpareRuns.{Both, both-on, both-halt, WideGiven, wide-gave, procedure-spare}
 use Rattle.runner.specs.declared.procedures.Execution.{Execution}
 use Rattle.runner.specs.declared.procedures.Execution.the-variants.{Done as Ended, Stopped as Halted}
 use Rattle.runner.specs.Executions.{told, executed}
 use Rattle.machine.specs.declared.Machine.{Machine}
 use Rattle.machine.specs.Turns.{held}
-use Rattle.machine.specs.Serving.{ranOn, TurnedCall}
+use Rattle.machine.specs.Serving.{Whole, ranOn, ownIn, left, Outcome, TurnedCall, TurnedPreview}
 
 -- ---- the two refusals
 
@@ -28,19 +30,19 @@ nothing-lent : (bytes : List ℕ) → bytes ≡ lent bytes []
 unfolding lent bytesOf
 nothing-lent bytes = refl
 
-module _ (m : Machine) (tree : Image) (f : ℕ) (ws : List ℕ) (budget room : ℕ) (before : List ℕ) where
-  pub no-procedure : length (tree .procedures) ≤ f
-      → TurnedCall m (record { machine = m; answer = Refused 17 0 }) before before (calledOn tree (held m) f ws budget room)
+module _ (image cells : List ℕ) (f : ℕ) (ws : List ℕ) (budget room : ℕ) (before : List ℕ) where
+  pub no-procedure : length (imageIn image .procedures) ≤ f
+      → Outcome image cells cells (Refused 17 0) before before (calledOn (imageIn image) (ownIn image cells) f ws budget room)
   unfolding calledOn
   no-procedure h =
-      rw (le-ltb f (length (tree .procedures)) h) record { answer = refl; cells = refl; trace = nothing-lent before; same = refl }
+      rw (le-ltb f (length (imageIn image .procedures)) h) record { answer = refl; cells = refl; trace = nothing-lent before }
 
-  pub wrong-count : f < length (tree .procedures) → (length ws ≡ procedureAt (tree .procedures) f .parameters → ⊥)
-      → TurnedCall m (record { machine = m; answer = Refused 18 0 }) before before (calledOn tree (held m) f ws budget room)
+  pub wrong-count : f < length (imageIn image .procedures) → (length ws ≡ procedureAt (imageIn image .procedures) f .parameters → ⊥)
+      → Outcome image cells cells (Refused 18 0) before before (calledOn (imageIn image) (ownIn image cells) f ws budget room)
   unfolding calledOn
   wrong-count h g =
-      rw (lt-ltb f (length (tree .procedures)) h, ne-eqb (length ws) (procedureAt (tree .procedures) f .parameters) g)
-      record { answer = refl; cells = refl; trace = nothing-lent before; same = refl }
+      rw (lt-ltb f (length (imageIn image .procedures)) h, ne-eqb (length ws) (procedureAt (imageIn image .procedures) f .parameters) g)
+      record { answer = refl; cells = refl; trace = nothing-lent before }
 
 pub called-runs : (tree : Image) (cells : List ℕ) (f : ℕ) (ws : List ℕ) (budget room : ℕ) → f < length (tree .procedures)
     → length ws ≡ procedureAt (tree .procedures) f .parameters
@@ -80,11 +82,10 @@ ran-framed tree cells f us ws budget room h =
 
 -- ---- the run: the array has more words than the image has cells
 
-module _ (m : Machine) (p : Procedure) (arrays rest : List ℕ) (C : Trace (List ℕ)) (budget : ℕ) (e : m .count ≡ cellCount arrays)
-    (before after cells : List ℕ) (r : Execution) where
-  spare-done : (x y : Ran (List ℕ) Given) → Both (WideGiven C budget arrays rest) x y → told r cells after ≡ executed before y
+module _ (image first : List ℕ) (p : Procedure) (rest : List ℕ) (C : Trace (List ℕ)) (budget : ℕ) (before after cells : List ℕ) (r : Execution) where
+  spare-done : (x y : Ran (List ℕ) Given) → Both (WideGiven C budget (imageIn image .arrays) rest) x y → told r cells after ≡ executed before y
       → (v z u a : ℕ) → r ≡ Ended v z u → a ≡ answered (p .result) v
-      → TurnedCall m (record { machine = record { cells = cells; count = m .count }; answer = Done a z u }) before after (ended p (held m) x)
+      → Outcome image first cells (Done a z u) before after (ended p (ownIn image first) x)
   unfolding ended told executed
   spare-done x y (both-on g k i t (wide-gave w cs l)) d v z u a s q =
       let d2 = rw s at d in
@@ -94,46 +95,65 @@ module _ (m : Machine) (p : Procedure) (arrays rest : List ℕ) (C : Trace (List
       let words : u ≡ length t = cc in
       record {
         answer = rw (q, value, steps, words);
-        cells = rw same (take-at cs rest (m .count) (l ∙ sym e));
+        cells = rw same (take-at cs rest (cellCount (imageIn image .arrays)) l);
         trace = cc;
-        same = refl;
       }
   spare-done x y (both-halt n l i t) d v z u a s q = let d2 = rw s at d in absurd (let z : _≡_ {A = ℕ} 0 1 = cc in omega arith)
 
-  spare-stopped : (x y : Ran (List ℕ) Given) → Both (WideGiven C budget arrays rest) x y → told r cells after ≡ executed before y
+  spare-stopped : (x y : Ran (List ℕ) Given) → Both (WideGiven C budget (imageIn image .arrays) rest) x y → told r cells after ≡ executed before y
       → (n l z u : ℕ) → r ≡ Halted n l z u
-      → TurnedCall m (record { machine = m; answer = Stopped n l z u }) before after (ended p (held m) x)
+      → Outcome image first cells (Stopped n l z u) before after (ended p (ownIn image first) x)
   unfolding ended told executed
   spare-stopped x y (both-on g k i t (wide-gave w cs b)) d n l z u s = let d2 = rw s at d in absurd (let z : _≡_ {A = ℕ} 0 1 = cc in omega arith)
-  spare-stopped x y (both-halt j q i t) d n l z u s =
-      let d2 = rw s at d in record { answer = cc; cells = refl; trace = cc; same = refl }
+  spare-stopped x y (both-halt j q i t) d n l z u s = let d2 = rw s at d in record { answer = cc; cells = refl; trace = cc }
 
-module _ (m : Machine) (tree : Image) (f : ℕ) (values : List ℕ) (budget room : ℕ) (long : length (m .cells) ≡ 1024) (most : m .count ≤ 1024)
-    (all : m .count ≡ cellCount (tree .arrays)) (before after cells : List ℕ) (r : Execution)
-    (d : told r cells after
-    ≡ executed before (runProcedure (traceWords room) budget (tree .arrays) (tree .procedures) (length (tree .procedures)) f values 0 [] (m .cells))) where
-  held-long : length (held m) ≡ cellCount (tree .arrays)
-  held-long = length-take-le (m .count) (m .cells) (omega arith) ∙ all
+-- what an image of words runs over given cells
+abbrev runIn : List ℕ → ℕ → List ℕ → ℕ → ℕ → List ℕ → Ran (List ℕ) Given
+runIn image f values budget room cs =
+    runProcedure (traceWords room) budget (imageIn image .arrays) (imageIn image .procedures) (length (imageIn image .procedures)) f values 0 [] cs
 
-  abbrev Run : List ℕ → Ran (List ℕ) Given
-  Run cs = runProcedure (traceWords room) budget (tree .arrays) (tree .procedures) (length (tree .procedures)) f values 0 [] cs
+module _ (image first : List ℕ) (f : ℕ) (values : List ℕ) (budget room : ℕ) (long : length first ≡ 1024)
+    (few : cellCount (imageIn image .arrays) ≤ 1024) (before after cells : List ℕ) (r : Execution)
+    (d : told r cells after ≡ executed before (runIn image f values budget room first)) where
+  abbrev own : List ℕ
+  own = ownIn image first
 
-  with-spare : told r cells after ≡ executed before (Run (held m ++ drop (m .count) (m .cells)))
-  with-spare = d ∙ ap (λ (cs : List ℕ). executed before (Run cs)) (sym (take-append-drop (m .count) (m .cells)))
+  abbrev spare : List ℕ
+  spare = drop (cellCount (imageIn image .arrays)) first
 
-  both : Both (WideGiven (traceWords room) budget (tree .arrays) (drop (m .count) (m .cells))) (Run (held m)) (Run (held m ++ drop (m .count) (m .cells)))
-  both = procedure-spare (traceWords room) budget (tree .arrays) (drop (m .count) (m .cells)) (tree .procedures) (length (tree .procedures)) f values 0 [] (held m) held-long
+  with-spare : told r cells after ≡ executed before (runIn image f values budget room (own ++ spare))
+  with-spare =
+      d ∙ ap (λ (cs : List ℕ). executed before (runIn image f values budget room cs)) (sym (take-append-drop (cellCount (imageIn image .arrays)) first))
 
-  pub turn-done : (v z u a type : ℕ) → r ≡ Ended v z u → type ≡ procedureAt (tree .procedures) f .result → a ≡ answered type v
-      → TurnedCall m (record { machine = record { cells = cells; count = m .count }; answer = Done a z u }) before after (ranOn tree (held m) f values budget room)
+  both : Both (WideGiven (traceWords room) budget (imageIn image .arrays) spare) (runIn image f values budget room own)
+      (runIn image f values budget room (own ++ spare))
+  both =
+      procedure-spare (traceWords room) budget (imageIn image .arrays) spare (imageIn image .procedures) (length (imageIn image .procedures)) f values 0 []
+      own (length-take-le (cellCount (imageIn image .arrays)) first (omega arith))
+
+  pub run-done : (v z u a type : ℕ) → r ≡ Ended v z u → type ≡ procedureAt (imageIn image .procedures) f .result → a ≡ answered type v
+      → Outcome image first cells (Done a z u) before after (ranOn (imageIn image) own f values budget room)
   unfolding ranOn
-  turn-done v z u a type s t q =
-      spare-done m (procedureAt (tree .procedures) f) (tree .arrays) (drop (m .count) (m .cells)) (traceWords room) budget all before after cells r
-      (Run (held m)) (Run (held m ++ drop (m .count) (m .cells))) both with-spare v z u a s (q ∙ ap (λ (n : ℕ). answered n v) t)
+  run-done v z u a type s t q =
+      spare-done image first (procedureAt (imageIn image .procedures) f) spare (traceWords room) budget before after cells r
+      (runIn image f values budget room own) (runIn image f values budget room (own ++ spare)) both with-spare v z u a s
+      (q ∙ ap (λ (n : ℕ). answered n v) t)
 
-  pub turn-stopped : (n l z u : ℕ) → r ≡ Halted n l z u
-      → TurnedCall m (record { machine = m; answer = Stopped n l z u }) before after (ranOn tree (held m) f values budget room)
+  pub run-stopped : (n l z u : ℕ) → r ≡ Halted n l z u
+      → Outcome image first cells (Stopped n l z u) before after (ranOn (imageIn image) own f values budget room)
   unfolding ranOn
-  turn-stopped n l z u s =
-      spare-stopped m (procedureAt (tree .procedures) f) (tree .arrays) (drop (m .count) (m .cells)) (traceWords room) budget all before after cells r
-      (Run (held m)) (Run (held m ++ drop (m .count) (m .cells))) both with-spare n l z u s
+  run-stopped n l z u s =
+      spare-stopped image first (procedureAt (imageIn image .procedures) f) spare (traceWords room) budget before after cells r
+      (runIn image f values budget room own) (runIn image f values budget room (own ++ spare)) both with-spare n l z u s
+
+-- ---- the machine after a call, and after a preview
+
+module _ (m : Machine) (image : List ℕ) (all : Whole image (m .count)) (f : ℕ) (ws : List ℕ) (budget room : ℕ) (before after cells : List ℕ) (r : Answer)
+    (o : Outcome image (m .cells) cells r before after (calledOn (imageIn image) (ownIn image (m .cells)) f ws budget room)) where
+  pub turn-called : (x : Answer) → r ≡ x
+      → TurnedCall m (record { machine = record { cells = left x (m .cells) cells; count = m .count }; answer = x }) before after
+      (calledOn (imageIn image) (held m) f ws budget room)
+  turn-called x e = rw all record { answer = sym e ∙ o .answer; cells = rw e at (o .cells); trace = o .trace; same = refl }
+
+  pub turn-previewed : TurnedPreview m (record { machine = m; answer = r }) before after (calledOn (imageIn image) (held m) f ws budget room)
+  turn-previewed = rw all record { answer = o .answer; trace = o .trace; machine = refl }

@@ -10,16 +10,15 @@ ghost use Rattle.tables.specs.Table.{arraysIn};
 ghost use Rattle.requests.specs.Cells.{Fits};
 ghost use Rattle.requests.specs.OwnCells.{clearOn, pokeOn, peekOn};
 ghost use Rattle.machine.specs.Turns.{held, Turned};
-ghost use Rattle.machine.specs.Serving.{Serves, TurnedCall};
+ghost use Rattle.machine.specs.Serving.{Serves, TurnedCall, TurnedPreview};
 use definitions::Answer;
 use evaluator::CELLS;
-use image_words::lists::wide;
-use image_words::procedures;
 use requests::cells::Slot;
 use requests::cells::find_cell;
+use runs::call_on;
 use tables::SIZE;
 
-mod runs; // the run of a call whose procedure and number of arguments were tested
+mod runs; // a call over an array of cells
 
 // The first `count` words are the cells of the image; those behind them mean nothing.
 pub struct Machine {
@@ -117,7 +116,7 @@ impl Machine {
         }
     }
 
-    // The call: 17 where there is no such procedure, then 18 where the number of arguments is not its number of parameters.
+    // The call: a result hands back the machine that the run left, a stop or a refusal the one that came in.
     pub fn call(
         self,
         image: &[u32],
@@ -132,19 +131,45 @@ impl Machine {
         ensures { λ r. ⌜ TurnedCall self r (now (trace .entry)) (now (trace .exit)) (calledOn (imageIn (now (image .entry))) (held self) f
             (wordsOf (now (arguments .entry))) budget (length (wordsOf (now (trace .entry))))) ⌝ }
     {
-        if procedures(image[0]) <= f {
-            return Turn {
+        let mut cells = self.cells;
+        let count = self.count;
+        match call_on(&mut cells, image, table, ends, f, arguments, budget, trace) {
+            Answer::Done(v, steps, used) => Turn {
+                machine: Machine { cells, count },
+                answer: Answer::Done(v, steps, used),
+            },
+            Answer::Stopped(number, place, steps, used) => Turn {
+                machine: self, // the cells are as before the call
+                answer: Answer::Stopped(number, place, steps, used),
+            },
+            Answer::Refused(number, place) => Turn {
                 machine: self,
-                answer: Answer::Refused(17, 0),
-            };
+                answer: Answer::Refused(number, place),
+            },
         }
-        if arguments.len() / 4 != wide(tables::parameters(table, f)) {
-            return Turn {
-                machine: self,
-                answer: Answer::Refused(18, 0),
-            };
+    }
+
+    // The preview: "making the call on a copy of the machine". The run works on the copy, and the machine that came in is handed back.
+    pub fn preview(
+        self,
+        image: &[u32],
+        table: &[u32; SIZE],
+        ends: &[u16],
+        f: u32,
+        arguments: &[u8],
+        budget: u32,
+        trace: &mut [u8],
+    ) -> Turn
+        requires { ⌜ Serves (now image) (now table) (now ends) (self .count) ⌝ }
+        ensures { λ r. ⌜ TurnedPreview self r (now (trace .entry)) (now (trace .exit)) (calledOn (imageIn (now (image .entry))) (held self) f
+            (wordsOf (now (arguments .entry))) budget (length (wordsOf (now (trace .entry))))) ⌝ }
+    {
+        let mut copy = self.cells;
+        let answer = call_on(&mut copy, image, table, ends, f, arguments, budget, trace);
+        Turn {
+            machine: self, // the copy is dropped
+            answer,
         }
-        runs::run(self, image, table, ends, f, arguments, budget, trace)
     }
 }
 

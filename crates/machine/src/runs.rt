@@ -1,7 +1,8 @@
-// The run of a call whose procedure and number of arguments were tested.
-use super::Machine;
-use super::Turn;
+// A call over an array of cells, in which the run works: whoever calls keeps the machine that it was copied from.
 use definitions::Answer;
+use evaluator::CELLS;
+use image_words::lists::wide;
+use image_words::procedures;
 use requests::arguments::MOST;
 use requests::arguments::answer_of;
 use requests::arguments::fill_values;
@@ -13,17 +14,17 @@ ghost use mathlib.Core.Path.{_≡_};
 ghost use Prim.Native.Nat.{_/_};
 ghost use lib.ListN.{length, getD, replicate};
 ghost use Rattle.definitions.specs.Bytes.{wordsOf};
-ghost use Rattle.definitions.specs.Requests.{argumentValues};
+ghost use Rattle.definitions.specs.Requests.{argumentValues, calledOn};
 ghost use Rattle.laws.specs.ImageIn.{imageIn};
-ghost use Rattle.tables.specs.Table.{paramsIn, padded};
+ghost use Rattle.tables.specs.Table.{paramsIn, padded, Known};
 ghost use Rattle.tables.specs.Looking.{Listed, procedureIn};
 ghost use Rattle.runner.specs.Runs.{Ready, nine};
-ghost use Rattle.machine.specs.Turns.{held};
-ghost use Rattle.machine.specs.Serving.{Whole, Serves, ranOn, TurnedCall};
+ghost use Rattle.reader.specs.Ends.{BlockEnds};
+ghost use Rattle.machine.specs.Serving.{ownIn, ranOn, Outcome};
 
-// Procedure f on its values; `result` is the type word of its result. On a stop the machine is the one that came in.
+// Procedure f on its values; `result` is the type word of its result.
 fn run_on(
-    machine: Machine,
+    cells: &mut [u32; CELLS],
     image: &[u32],
     table: &[u32; SIZE],
     ends: &[u16],
@@ -32,22 +33,17 @@ fn run_on(
     result: u32,
     budget: u32,
     trace: &mut [u8],
-) -> Turn
-    requires { ⌜ Ready (now image) (now table) (now ends) f × Whole (now image) (machine .count) × (result ≡ procedureIn (now image) f .result) ⌝ }
-    ensures { λ r. ⌜ TurnedCall machine r (now (trace .entry)) (now (trace .exit)) (ranOn (imageIn (now (image .entry))) (held machine) f
-        (nine (now (values .entry))) budget (length (now (trace .entry)) / 4)) ⌝ }
+) -> Answer
+    requires { ⌜ (length (now cells) ≡ 1024) × Ready (now image) (now table) (now ends) f × (result ≡ procedureIn (now image) f .result) ⌝ }
+    ensures { λ r. ⌜ Outcome (now (image .entry)) (now (cells .entry)) (now (cells .exit)) r (now (trace .entry)) (now (trace .exit))
+        (ranOn (imageIn (now (image .entry))) (ownIn (now (image .entry)) (now (cells .entry))) f (nine (now (values .entry))) budget
+        (length (now (trace .entry)) / 4)) ⌝ }
 {
-    let mut cells = machine.cells;
-    let count = machine.count;
-    match run_procedure(image, table, ends, values, &mut cells, trace, f, budget) {
-        Execution::Stopped(number, place, steps, used) => Turn {
-            machine, // the cells are as before the call
-            answer: Answer::Stopped(number, place, steps, used),
-        },
-        Execution::Done(v, steps, used) => Turn {
-            machine: Machine { cells, count },
-            answer: Answer::Done(answer_of(result, v), steps, used),
-        },
+    match run_procedure(image, table, ends, values, cells, trace, f, budget) {
+        Execution::Stopped(number, place, steps, used) => {
+            Answer::Stopped(number, place, steps, used)
+        }
+        Execution::Done(v, steps, used) => Answer::Done(answer_of(result, v), steps, used),
     }
 }
 
@@ -62,8 +58,8 @@ fn fill(image: &[u32], table: &[u32; SIZE], f: u32, arguments: &[u8], values: &m
 }
 
 // A call whose procedure and number of arguments were tested.
-pub fn run(
-    machine: Machine,
+fn run(
+    cells: &mut [u32; CELLS],
     image: &[u32],
     table: &[u32; SIZE],
     ends: &[u16],
@@ -71,24 +67,39 @@ pub fn run(
     arguments: &[u8],
     budget: u32,
     trace: &mut [u8],
-) -> Turn
-    requires { ⌜ Serves (now image) (now table) (now ends) (machine .count) × Listed (now image) (now table) f
-        × (length (now arguments) / 4 ≡ getD (paramsIn (now table)) f 0) ⌝ }
-    ensures { λ r. ⌜ TurnedCall machine r (now (trace .entry)) (now (trace .exit)) (ranOn (imageIn (now (image .entry))) (held machine) f
+) -> Answer
+    requires { ⌜ (length (now cells) ≡ 1024) × Ready (now image) (now table) (now ends) f × (length (now arguments) / 4 ≡ getD (paramsIn (now table)) f 0) ⌝ }
+    ensures { λ r. ⌜ Outcome (now (image .entry)) (now (cells .entry)) (now (cells .exit)) r (now (trace .entry)) (now (trace .exit))
+        (ranOn (imageIn (now (image .entry))) (ownIn (now (image .entry)) (now (cells .entry))) f
         (argumentValues (procedureIn (now (image .entry)) f .types) (wordsOf (now (arguments .entry)))) budget (length (now (trace .entry)) / 4)) ⌝ }
 {
     let mut values = [0u32; MOST];
     fill(image, table, f, arguments, &mut values);
     let result = result_type(image, table, f);
-    run_on(
-        machine,
-        image,
-        table,
-        ends,
-        &values,
-        f,
-        result,
-        budget,
-        trace,
-    )
+    run_on(cells, image, table, ends, &values, f, result, budget, trace)
+}
+
+// The call: 17 where there is no such procedure, then 18 where the number of arguments is not its number of parameters.
+pub fn call_on(
+    cells: &mut [u32; CELLS],
+    image: &[u32],
+    table: &[u32; SIZE],
+    ends: &[u16],
+    f: u32,
+    arguments: &[u8],
+    budget: u32,
+    trace: &mut [u8],
+) -> Answer
+    requires { ⌜ (length (now cells) ≡ 1024) × Known (now image) (now table) × BlockEnds (now image) (paramsIn (now table)) (now ends) ⌝ }
+    ensures { λ r. ⌜ Outcome (now (image .entry)) (now (cells .entry)) (now (cells .exit)) r (now (trace .entry)) (now (trace .exit))
+        (calledOn (imageIn (now (image .entry))) (ownIn (now (image .entry)) (now (cells .entry))) f (wordsOf (now (arguments .entry))) budget
+        (length (wordsOf (now (trace .entry))))) ⌝ }
+{
+    if procedures(image[0]) <= f {
+        return Answer::Refused(17, 0);
+    }
+    if arguments.len() / 4 != wide(tables::parameters(table, f)) {
+        return Answer::Refused(18, 0);
+    }
+    run(cells, image, table, ends, f, arguments, budget, trace)
 }

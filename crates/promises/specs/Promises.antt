@@ -24,17 +24,18 @@ use Rattle.definitions.specs.Operators.{shifts, applyBinary}
 use Rattle.definitions.specs.Running.{traceWords, value, stop, operated}
 use Rattle.definitions.specs.Requests.{Called}
 use Rattle.definitions.specs.Host.{wholeWords, checkBytes, compileBytes, loadBytes, clearBytes, pokeBytes, peekBytes}
-use Rattle.definitions.specs.Host.{callBytes, describeBytes}
+use Rattle.definitions.specs.Host.{callBytes, previewBytes, describeBytes}
 use Rattle.statements.specs.Statements.{Iff, Exactly, AdmissibleBytes, Among, RefusesBytes, NotLoaded, Loadable, NotReady, NoCell}
 use Rattle.statements.specs.Statements.{WithCell, NotCalled, Callable, cleared, stored, ResultOrStop, stepsOf, recordedCount}
 use Rattle.statements.specs.Statements.{recordedIn, SameOrSpent, SameOrFilled, BeyondArray, DivisorZero, NotWritten}
-use Rattle.statements.specs.Statements.{Compilable, SameMeaning, Machine, empty, Request, responses, AlikeLists, SameTurns}
+use Rattle.statements.specs.Statements.{Compilable, SameMeaning, Machine, empty, Request, turn, responses, AlikeLists, SameTurns}
 use Rattle.statements.specs.Statements.{answerIn, checkedIn, compiledIn}
-use Rattle.tinesage.specs.Contracts.{Checks, Compiles, Describes, Loads, Clears, Pokes, Peeks, Calls}
+use Rattle.tinesage.specs.Contracts.{Checks, Compiles, Describes, Loads, Clears, Pokes, Peeks, Calls, Previews}
 use Rattle.statements.specs.Limits.{FitsImage}
 use Rattle.statements.specs.FormerLimits.{readImageBy, formerReadImage, From, Kept, WithinLimits, SameAnswers}
 use Rattle.statements.specs.FormerTraces.{callBytesBy, formerCallBytes, noShift, OnlyEntriesAdded}
 use Rattle.laws.specs.FormerLevels.{by-image, limits-keep-answers, one-level-more, same-answers}
+use Rattle.laws.specs.Previews.{preview-is-call-on-a-copy, preview-turn}
 use Rattle.readback.specs.Whole.{image-compiled-fits}
 use Rattle.results.specs.WithinLimits.{within-limits}
 use Rattle.results.specs.CountsAdded.{count-recorded, count-stopped, by-operators, only-entries-added, no-shift-same}
@@ -43,12 +44,15 @@ use Rattle.results.specs.Exactly.{loaded-or-not, ready-or-not, cell-or-not, cal
 use Rattle.results.specs.Exactly.{clear-refused-exactly, clear-is-done, poke-refused-exactly, poke-is-done}
 use Rattle.results.specs.Exactly.{peek-refused-exactly, peek-is-done, call-refused-exactly, call-ends, load-unchanged}
 use Rattle.results.specs.Exactly.{clear-unchanged, poke-unchanged, peek-unchanged, call-unchanged, stop-leaves, done-leaves}
+use Rattle.results.specs.Exactly.{preview-refused-exactly, preview-ends, preview-leaves}
 use Rattle.results.specs.Written.{written-or-not, compile-refused-exactly, compile-is-written, compile-unchanged}
 use Rattle.results.specs.StoppedExactly.{two-budgets, two-traces, steps-within, words-within, budget-reached, trace-filled}
 use Rattle.results.specs.StoppedExactly.{index-stops, divisor-stops}
+use Rattle.results.specs.PreviewedTraces.{trace-enough}
 use Rattle.properties.specs.CompiledBytes.{target-accepted, target-tree, target-loads, same-meaning}
 use Rattle.secrecy.specs.Secrecy.{secrecy, served-to-the-end}
 use Rattle.promises.specs.Functions.{check-read, compile-read, request-read, call-read}
+use Rattle.statements.specs.Statements
 
 -- ======== Property 1
 -- The demand: every image and call gets a result, one of four named stops or the exact refusal, and refusals and stops leave cells and output unchanged.
@@ -75,6 +79,7 @@ pub record StoppedExactly (image cells : List ℕ) (f : ℕ) (arguments : List �
 
 -- What is as before: after a refusal the cells, the output and the trace; "A stop answers 0 with the steps and entries so far; cells are as before
 -- the call and later trace words untouched." A peek leaves the cells in every case, and so does every call the trace words past those recorded.
+-- A preview "leaves every cell", and trace words as a call does: where it is refused it records none, so all of them.
 pub record Unchanged (image cells : List ℕ) : Type 0 where
   pub by-load : (k p : ℕ) → loadBytes image cells .0 ≡ Refused k p → loadBytes image cells .1 ≡ cells
   pub by-clear : (k p : ℕ) → clearBytes image cells .0 ≡ Refused k p → clearBytes image cells .1 ≡ cells
@@ -90,6 +95,10 @@ pub record Unchanged (image cells : List ℕ) : Type 0 where
   pub by-result : (f : ℕ) (arguments : List ℕ) (budget : ℕ) (trace : List ℕ) (v z n : ℕ)
       → callBytes image cells f arguments budget trace .0 ≡ Done v z n
       → drop (4 * n) (callBytes image cells f arguments budget trace .2) ≡ drop (4 * n) trace
+  pub by-preview : (f : ℕ) (arguments : List ℕ) (budget : ℕ) (trace : List ℕ)
+      → (previewBytes image cells f arguments budget trace .1 ≡ cells)
+      × (drop (4 * recordedCount (previewBytes image cells f arguments budget trace .0)) (previewBytes image cells f arguments budget trace .2)
+      ≡ drop (4 * recordedCount (previewBytes image cells f arguments budget trace .0)) trace)
   pub by-compile : (out : List ℕ) → Bytes out → (k p : ℕ) → compileBytes image out .0 ≡ CompileRefused k p → compileBytes image out .1 ≡ out
 
 pub record Property1 : Type 0 where
@@ -119,6 +128,10 @@ pub record Property1 : Type 0 where
   pub called-exactly : (image cells : List ℕ) → Bytes cells → (f : ℕ) (arguments : List ℕ) (budget : ℕ) (trace : List ℕ)
       → Exactly Refused (callBytes image cells f arguments budget trace .0) (NotCalled image cells f arguments) (Callable image cells f arguments)
       (λ tree. ResultOrStop (callBytes image cells f arguments budget trace .0))
+  -- and so does a preview, which is refused as a call is; when it is stopped, `preview-is-call-on-a-copy` says (wish 7): when the call is
+  pub previewed-exactly : (image cells : List ℕ) → Bytes cells → (f : ℕ) (arguments : List ℕ) (budget : ℕ) (trace : List ℕ)
+      → Exactly Refused (previewBytes image cells f arguments budget trace .0) (NotCalled image cells f arguments) (Callable image cells f arguments)
+      (λ tree. ResultOrStop (previewBytes image cells f arguments budget trace .0))
   pub stopped-exactly : (image cells : List ℕ) (f : ℕ) (arguments : List ℕ) → StoppedExactly image cells f arguments
   pub unchanged : (image cells : List ℕ) → Bytes cells → Unchanged image cells
 
@@ -152,6 +165,12 @@ property-1 =
             done-where = call-ends image cells b f arguments budget trace;
             no-third = called-or-not image cells f arguments;
           };
+      previewed-exactly = λ image cells b f arguments budget trace.
+          record {
+            refused-where = preview-refused-exactly image cells b f arguments budget trace;
+            done-where = preview-ends image cells b f arguments budget trace;
+            no-third = called-or-not image cells f arguments;
+          };
       stopped-exactly = λ image cells f arguments.
           record {
             steps-within = steps-within image cells f arguments;
@@ -172,6 +191,7 @@ property-1 =
             by-refused-call = call-unchanged image cells b;
             by-stop = stop-leaves image cells b;
             by-result = done-leaves image cells b;
+            by-preview = preview-leaves image cells b;
             by-compile = compile-unchanged image;
           };
     }
@@ -198,7 +218,7 @@ pub record Property2 : Type 0 where
   pub compiled-loads : (image out : List ℕ) (n : ℕ) → compileBytes image out .0 ≡ Written n → (tree : Image) → AdmissibleBytes image tree
       → (cells : List ℕ) → Bytes cells → 4 * cellCount (tree .arrays) ≤ length cells
       → loadBytes (wrote image out n) cells ≡ (Done 0 0 0, cleared (cellCount (tree .arrays)) cells)
-  -- and every call on it ends as the call on its source, every other request having the same answer and leaving the same cells
+  -- and every call and preview on it ends as that on its source, every other request having the same answer and leaving the same cells
   pub compiled-ends : (image out : List ℕ) (n : ℕ) → compileBytes image out .0 ≡ Written n → (tree : Image) → AdmissibleBytes image tree
       → SameMeaning image tree (wrote image out n)
 
@@ -217,7 +237,8 @@ property-2 =
 -- The demand: over any list of requests on two machines that differ only in secrets, everything an onlooker sees is equal: one claim about the whole list.
 -- "Two lists of requests (load, poke, peek, clear, call) stand side by side .. Secret arguments and words poked into secret cells may differ. .. Equal at
 -- each turn: whether it is refused or stopped, number, place, steps, the number of trace words recorded and each of them, a public result, a peeked
--- public cell. Equal after each turn: all cells of public arrays of the image then in force. This is one claim about the whole list".
+-- public cell. Equal after each turn: all cells of public arrays of the image then in force. This is one claim about the whole list". A preview is a
+-- request of such a list too, whose secret arguments may differ: "Previews may stand in any sequence a prying host makes" (document 02, wish 7).
 
 pub record Property3 : Type 0 where
   -- "A machine starts empty: no image accepted yet. Both machines' cell slices have one length, whatever they hold at the start."
@@ -302,6 +323,41 @@ wish-4 =
       no-shift-same = λ image none cells f arguments budget trace. no-shift-same image cells f arguments budget trace none;
     }
 
+-- ======== Document 02, wish 7
+-- "A preview takes a call's arguments, budget and trace buffer, gives the same answer, stop, steps and entries, and leaves every cell. It equals making
+-- the call on a copy of the machine. Previews may stand in any sequence a prying host makes." What such a host sees is property 3, whose lists have
+-- previews among their requests.
+
+pub record Wish7 : Type 0 where
+  -- The answer, with its stop and its steps, and all that the lent trace holds are the call's on the same image and cells. The cells are those before,
+  -- byte for byte, those that the image has no use for too.
+  pub preview-is-call-on-a-copy : (image cells : List ℕ) → Bytes cells → (f : ℕ) (arguments : List ℕ) (budget : ℕ) (trace : List ℕ)
+      → previewBytes image cells f arguments budget trace
+      ≡ (callBytes image cells f arguments budget trace .0, cells, callBytes image cells f arguments budget trace .2)
+  -- At any turn of a list the next request finds the machine that the preview found.
+  pub preview-turn : (m : Machine) → Bytes (m .cells) → (f : ℕ) (arguments : List ℕ) (budget : ℕ) (trace : List ℕ)
+      → turn m (Statements.preview f arguments budget trace)
+      ≡ record {
+        answer = turn m (Statements.call f arguments budget trace) .answer;
+        trace = turn m (Statements.call f arguments budget trace) .trace;
+        after = m;
+      }
+  -- A host learns from a preview how long a trace a call needs. Unless the preview is stopped with 22, a trace with room for the words that it recorded
+  -- is enough: the call with such a trace has the same answer and records the same words.
+  pub trace-enough : (image cells : List ℕ) (f : ℕ) (arguments : List ℕ) (budget : ℕ) (trace trace′ : List ℕ)
+      → ((p z n : ℕ) → previewBytes image cells f arguments budget trace .0 ≡ Stopped 22 p z n → ⊥)
+      → recordedCount (previewBytes image cells f arguments budget trace .0) ≤ length (wordsOf trace′)
+      → (callBytes image cells f arguments budget trace′ .0 ≡ previewBytes image cells f arguments budget trace .0)
+      × (recordedIn (callBytes image cells f arguments budget trace′) ≡ recordedIn (previewBytes image cells f arguments budget trace))
+
+pub wish-7 : Wish7
+wish-7 =
+    record {
+      preview-is-call-on-a-copy = λ image cells b f arguments budget trace. preview-is-call-on-a-copy image cells f arguments budget trace b;
+      preview-turn = preview-turn;
+      trace-enough = trace-enough;
+    }
+
 -- ======== The C functions
 -- What a host reads in the 28 bytes or more that it lent for the answer, and what the lent slices hold, are the definition's: so each clause above is
 -- one of the C functions, with the left side for the right. The relations are the functions' contracts (tinesage/specs/Contracts.antt).
@@ -323,6 +379,9 @@ pub record Functions : Type 0 where
   pub calls : (image cells : List ℕ) (f : ℕ) (arguments : List ℕ) (budget : ℕ) (trace answer cells′ trace′ answer′ : List ℕ) → 28 ≤ length answer
       → Calls image cells f arguments budget trace answer cells′ trace′ answer′
       → _≡_ {A = Called} (answerIn answer′, cells′, trace′) (callBytes image cells f arguments budget trace)
+  pub previews : (image cells : List ℕ) (f : ℕ) (arguments : List ℕ) (budget : ℕ) (trace answer trace′ answer′ : List ℕ) → 28 ≤ length answer
+      → Previews image cells f arguments budget trace answer trace′ answer′
+      → _≡_ {A = Called} (answerIn answer′, cells, trace′) (previewBytes image cells f arguments budget trace)
 
 pub functions : Functions
 functions =
@@ -336,4 +395,6 @@ functions =
       peeks = λ image cells a i answer answer′ room (c, b). request-read answer answer′ room (peekBytes image cells a i) cells c b;
       calls = λ image cells f arguments budget trace answer cells′ trace′ answer′ room (c, t, a).
           call-read answer answer′ room (callBytes image cells f arguments budget trace) cells′ trace′ c t a;
+      previews = λ image cells f arguments budget trace answer trace′ answer′ room (c, t, a).
+          call-read answer answer′ room (previewBytes image cells f arguments budget trace) cells trace′ c t a;
     }

@@ -3,7 +3,7 @@
 use Prim.Native.Nat.{ℕ, _*_, _%_, _≤_}
 use mathlib.Core.Bool.{true}
 use mathlib.Core.List.{List, [], _∷_, _++_, append-assoc, append-nil}
-use mathlib.Core.Path.{_≡_, sym, ap, _∙_}
+use mathlib.Core.Path.{_≡_, refl, sym, ap, _∙_}
 use native.Mathlib.Omega.{arith}
 use borrow.Author.Tests.{eq-eqb}
 use lib.Dec.{eqb}
@@ -18,9 +18,9 @@ use Rattle.definitions.specs.Image.{Image, procedureAt, cellCount}
 use Rattle.definitions.specs.Encoding.{imageWords}
 use Rattle.definitions.specs.Reading.{readImage}
 use Rattle.definitions.specs.Compiling.{compiledImage}
-use Rattle.definitions.specs.Requests.{Called, call}
+use Rattle.definitions.specs.Requests.{Called, call, preview}
 use Rattle.definitions.specs.Host.{wholeWords, checkBytes, compileBytes, loadBytes, clearBytes, pokeBytes, peekBytes}
-use Rattle.definitions.specs.Host.{callBytes}
+use Rattle.definitions.specs.Host.{callBytes, previewBytes}
 use Rattle.statements.specs.Statements.{AdmissibleBytes, cleared, EndAlike, withGuard, SameMeaning}
 use Rattle.laws.specs.WordsOfBytes.{length-bytesOf, bytesOf-append, words-first}
 use Rattle.laws.specs.Parses.{got-same}
@@ -40,6 +40,13 @@ inBytes cells trace r = (r .0, lent cells (r .1), lent trace (r .2))
 
 lent-alike : (x y : Called) (cells trace trace′ : List ℕ) → EndAlike x y → EndAlike (inBytes cells trace x) (inBytes cells trace′ y)
 lent-alike x y cells trace trace′ (r, h) = (r, λ a b. (h a b .0, ap (lent cells) (h a b .1)))
+
+-- where two calls end alike, so do the previews: both leave the cells
+previews-alike : (image target cells : List ℕ) (f : ℕ) (arguments arguments′ : List ℕ) (budget budget′ : ℕ) (trace trace′ : List ℕ)
+    → EndAlike (callBytes image cells f arguments budget trace) (callBytes target cells f arguments′ budget′ trace′)
+    → EndAlike (previewBytes image cells f arguments budget trace) (previewBytes target cells f arguments′ budget′ trace′)
+unfolding callBytes previewBytes preview
+previews-alike image target cells f arguments arguments′ budget budget′ trace trace′ (r, h) = (r, λ a b. (h a b .0, refl))
 
 -- words written as bytes are read as those words, and are whole
 words-back : (ws : List ℕ) → wordsOf (bytesOf ws) ≡ ws
@@ -104,19 +111,28 @@ module _ (image out : List ℕ) (n : ℕ) (e : compileBytes image out .0 ≡ Wri
         let read = admit true code (back .tree) (length code) (back .reading) (back .faultless) in
         (back .tree, rw (whole, spelled) (admitted-admissible true code (back .tree) (length code) read), back .in-form, back .same-arrays ∙ sym (like .arrays))
 
+    same-calls-in-bytes : (cells : List ℕ) (f : ℕ) (arguments arguments′ : List ℕ) (budget budget′ : ℕ) (trace trace′ : List ℕ)
+        → wordsOf arguments′ ≡ withGuard (procedureAt (tree .procedures) f) (wordsOf arguments)
+        → EndAlike (callBytes image cells f arguments budget trace) (callBytes target cells f arguments′ budget′ trace′)
+    unfolding callBytes
+    same-calls-in-bytes cells f arguments arguments′ budget budget′ trace trace′ g =
+        rw (whole, spelled, g, guard f (wordsOf arguments))
+        (lent-alike
+        (call (wholeWords image) (wordsOf image) (wordsOf cells) f (wordsOf arguments) budget (length (wordsOf trace)))
+        (call true code (wordsOf cells) f (withGuard (procedureAt (w .source .procedures) f) (wordsOf arguments)) budget′ (length (wordsOf trace′)))
+        cells trace trace′
+        (same-calls (wholeWords image) (wordsOf image) (wordsOf out) n w back (wordsOf cells) f (wordsOf arguments)
+        budget budget′ (length (wordsOf trace)) (length (wordsOf trace′))))
+
     pub same-meaning : SameMeaning image tree target
-    unfolding loadBytes clearBytes pokeBytes peekBytes callBytes
+    unfolding loadBytes clearBytes pokeBytes peekBytes
     same-meaning =
         let known = no-fault (wholeWords image) (wordsOf image) (wordsOf out) n w in
         record {
-          calls = λ cells f arguments arguments′ budget budget′ trace trace′ g.
-              rw (whole, spelled, g, guard f (wordsOf arguments))
-              (lent-alike
-              (call (wholeWords image) (wordsOf image) (wordsOf cells) f (wordsOf arguments) budget (length (wordsOf trace)))
-              (call true code (wordsOf cells) f (withGuard (procedureAt (w .source .procedures) f) (wordsOf arguments)) budget′ (length (wordsOf trace′)))
-              cells trace trace′
-              (same-calls (wholeWords image) (wordsOf image) (wordsOf out) n w back (wordsOf cells) f (wordsOf arguments)
-              budget budget′ (length (wordsOf trace)) (length (wordsOf trace′))));
+          calls = same-calls-in-bytes;
+          previews = λ cells f arguments arguments′ budget budget′ trace trace′ g.
+              previews-alike image target cells f arguments arguments′ budget budget′ trace trace′
+              (same-calls-in-bytes cells f arguments arguments′ budget budget′ trace trace′ g);
           loads = λ cells. rw (whole, spelled, same-load (wholeWords image) (wordsOf image) (w .source) (w .place) (w .reading) known back (wordsOf cells));
           clears = λ cells. rw (whole, spelled, same-clear (wholeWords image) (wordsOf image) (w .source) (w .place) (w .reading) known back (wordsOf cells));
           pokes = λ cells b i v.

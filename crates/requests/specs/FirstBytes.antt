@@ -2,7 +2,7 @@
 use mathlib.Core.Path.{_≡_, refl, sym, ap, _∙_}
 use mathlib.Core.Bool.{Bool, true, false, _&&_}
 use mathlib.Core.List.{List, [], _∷_}
-use Prim.Native.Nat.{ℕ, zero, suc, _*_, _/_, _<_}
+use Prim.Native.Nat.{ℕ, zero, suc, _*_, _<_}
 use native.Mathlib.Omega.{arith}
 use borrow.Author.Tests.{leb-true, leb-false, lt-leb, ne-eqb}
 use lib.Dec.{eqb, leb}
@@ -15,8 +15,8 @@ use Rattle.definitions.specs.Reading.{Parse, readImage}
 use Rattle.definitions.specs.Checking.{withoutFault, admitted, verdict, checked}
 use Rattle.definitions.specs.Compiling.{compiledTree, compiled}
 use Rattle.definitions.specs.Describing.{describedTree, described}
-use Rattle.definitions.specs.Requests.{Ready, Called, withCells, readyToLoad, readyToServe, calledOn, servedCall, call}
-use Rattle.definitions.specs.Host.{wholeWords, checkBytes, compileBytes, describeBytes, callBytes}
+use Rattle.definitions.specs.Requests.{Ready, Called, withCells, readyToLoad, readyToServe, calledOn, servedCall, call, preview}
+use Rattle.definitions.specs.Host.{wholeWords, checkBytes, compileBytes, describeBytes, callBytes, previewBytes}
 use Rattle.laws.specs.WordsOfBytes.{length-wordsOf}
 use Rattle.requests.specs.LongImages.{front, wholeAndShort, same-read}
 
@@ -91,12 +91,22 @@ module _ (image : List ℕ) (h : 65540 < length image) where
     not-empty (wholeWords image) (length (wordsOf image)) (let m = words-many in omega arith),
   ) (first-loadable count)
 
-  pub first-called : (cells : List ℕ) (f : ℕ) (arguments : List ℕ) (budget : ℕ) (trace : List ℕ)
-      → callBytes (take 65540 image) cells f arguments budget trace ≡ callBytes image cells f arguments budget trace
-  unfolding callBytes call
-  first-called cells f arguments budget trace = ap (λ (x : Ready). let r : Called =
-      servedCall x (wordsOf cells) (λ m. calledOn m (wordsOf cells) f (wordsOf arguments) budget (length (wordsOf trace))) in
-      (r .0, lent cells (r .1), lent trace (r .2))) (first-served (length (wordsOf cells)))
+  module _ (cells : List ℕ) (f : ℕ) (arguments : List ℕ) (budget : ℕ) (trace : List ℕ) where
+    -- on words
+    first-call : call (wholeWords (take 65540 image)) (wordsOf (take 65540 image)) (wordsOf cells) f (wordsOf arguments) budget (length (wordsOf trace))
+        ≡ call (wholeWords image) (wordsOf image) (wordsOf cells) f (wordsOf arguments) budget (length (wordsOf trace))
+    unfolding call
+    first-call = ap
+        (λ (x : Ready). servedCall x (wordsOf cells) (λ m. calledOn m (wordsOf cells) f (wordsOf arguments) budget (length (wordsOf trace))))
+        (first-served (length (wordsOf cells)))
+
+    pub first-called : callBytes (take 65540 image) cells f arguments budget trace ≡ callBytes image cells f arguments budget trace
+    unfolding callBytes
+    first-called = ap (λ (r : Called). (r .0, lent cells (r .1), lent trace (r .2))) first-call
+
+    pub first-previewed : previewBytes (take 65540 image) cells f arguments budget trace ≡ previewBytes image cells f arguments budget trace
+    unfolding previewBytes preview
+    first-previewed = ap (λ (r : Called). (r .0, lent cells (wordsOf cells), lent trace (r .2))) first-call
 
 -- the same of an image of any length: a shorter one is its own first bytes
 pub first-bytes : (image out : List ℕ) → compileBytes (take 65540 image) out ≡ compileBytes image out

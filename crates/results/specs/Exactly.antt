@@ -21,12 +21,13 @@ use Rattle.definitions.specs.Bytes.{Bytes, joined, wordAt, wordsOf, bytesOf, le
 use Rattle.definitions.specs.Requests.{ready, unready, withCells, readyToLoad, readyToServe, Served, served, hasCell}
 use Rattle.definitions.specs.Requests.{load, clear, poke, peek, Called, ended, calledOn, servedCall, call}
 use Rattle.definitions.specs.Running.{Ran, on, halt, Given, gave}
-use Rattle.definitions.specs.Host.{wholeWords, loadBytes, clearBytes, pokeBytes, peekBytes, callBytes, checkBytes}
+use Rattle.definitions.specs.Host.{wholeWords, loadBytes, clearBytes, pokeBytes, peekBytes, callBytes, previewBytes, checkBytes}
 use Rattle.statements.specs.Statements.{Iff, AdmissibleBytes, NotLoaded, bad-image, few-cells, Loadable, NotReady, empty-image}
 use Rattle.statements.specs.Statements.{as-by-load, NoCell, unready-for-cell, cell-missing, WithCell, NotCalled}
 use Rattle.statements.specs.Statements.{unready-for-call, procedure-missing, other-count, Callable, RefusedOr, cleared}
-use Rattle.statements.specs.Statements.{stored, ResultOrStop, with-result, with-stop}
+use Rattle.statements.specs.Statements.{stored, ResultOrStop, with-result, with-stop, recordedCount}
 use Rattle.laws.specs.WordsOfBytes.{lent-front, length-wordsOf, getD-wordsOf, length-bytesOf, lent-wordsOf}
+use Rattle.laws.specs.Previews.{previewed-answer, preview-is-call-on-a-copy}
 use Rattle.laws.specs.Ready.{ready-refused}
 use Rattle.laws.specs.Cells.{has-within}
 use Rattle.readback.specs.Like.{LikeImage, like-procedure-count}
@@ -388,3 +389,24 @@ module _ (image cells : List ℕ) (are : Bytes cells) (f : ℕ) (arguments : Lis
       go (ends w y after recorded h c l) e = behind-recorded trace recorded n (cc)
       go (stops j q y recorded s l h c) e = absurd (let o : _≡_ {A = ℕ} 0 1 = cc in omega arith)
       go (call-refuses j q h) e = absurd (let o : _≡_ {A = ℕ} 0 1 = cc in omega arith)
+
+  -- ---- Preview: its answer and its trace are the call's
+
+  pub preview-refused-exactly : (k p : ℕ) → Iff (previewBytes image cells f arguments budget trace .0 ≡ Refused k p) (NotCalled image cells f arguments k p)
+  preview-refused-exactly = rw (previewed-answer image cells f arguments budget trace) call-refused-exactly
+
+  pub preview-ends : (tree : Image) → Callable image cells f arguments tree → ResultOrStop (previewBytes image cells f arguments budget trace .0)
+  preview-ends = rw (previewed-answer image cells f arguments budget trace) call-ends
+
+  -- it leaves the cells in every case, and the trace words past those recorded: all of them where it is refused
+  pub preview-leaves : (previewBytes image cells f arguments budget trace .1 ≡ cells)
+      × (drop (4 * recordedCount (previewBytes image cells f arguments budget trace .0)) (previewBytes image cells f arguments budget trace .2)
+      ≡ drop (4 * recordedCount (previewBytes image cells f arguments budget trace .0)) trace)
+  preview-leaves =
+      rw (preview-is-call-on-a-copy image cells f arguments budget trace are) (refl, by-answer (callBytes image cells f arguments budget trace .0) refl)
+    where
+      by-answer : (x : Answer) → callBytes image cells f arguments budget trace .0 ≡ x
+          → drop (4 * recordedCount x) (callBytes image cells f arguments budget trace .2) ≡ drop (4 * recordedCount x) trace
+      by-answer (Done v z n) e = done-leaves v z n e
+      by-answer (Stopped k p z n) e = stop-leaves k p z n e .1
+      by-answer (Refused k p) e = call-unchanged k p e .1

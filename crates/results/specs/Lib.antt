@@ -13,5 +13,6 @@ pub mod ByOperators
 pub mod TwoRuns
 pub mod TwoCalls
 pub mod StoppedExactly
+pub mod PreviewedTraces
 pub mod WithinLimits
 pub mod CountsAdded

@@ -7,7 +7,7 @@
 -- "Secret arguments and words poked into secret cells may differ. All else the host passes is equal".
 -- "Equal at each turn: whether it is refused or stopped, number, place, steps, the number of trace words recorded and each of them, a public result, a
 -- peeked public cell. Equal after each turn: all cells of public arrays of the image then in force. This is one claim about the whole list, not
--- one for each request."
+-- one for each request." Document 02, wish 7: "Previews may stand in any sequence a prying host makes."
 -- Assumes nothing.
 use mathlib.Core.Path.{_≡_, refl, sym, ap}
 use mathlib.Core.Bool.{Bool, false, true≢false}

@@ -13,11 +13,11 @@ use Rattle.definitions.specs.Bytes.{wordsOf, lent}
 use Rattle.definitions.specs.Reading.{readImage}
 use Rattle.definitions.specs.Checking.{checked, admitted}
 use Rattle.definitions.specs.Requests.{Ready, ready, unready, readyToLoad, Served, served, carriedOut, zeroed, Called}
-use Rattle.definitions.specs.Requests.{load, clear, poke, peek, call}
-use Rattle.definitions.specs.Host.{wholeWords, loadBytes, clearBytes, pokeBytes, peekBytes, callBytes, checkBytes}
-use Rattle.statements.specs.Statements.{Machine, Response, turn, accepted, recordedCount, treeOf, imageOf}
-use Rattle.statements.specs.Statements.{secretResult, Alike, loads, pokes, peeks, clears, calls, bothDone, bothRefused}
-use Rattle.statements.specs.Statements.{InForce, nothing, SameResponse}
+use Rattle.definitions.specs.Requests.{load, clear, poke, peek, call, preview}
+use Rattle.definitions.specs.Host.{wholeWords, loadBytes, clearBytes, pokeBytes, peekBytes, callBytes, previewBytes, checkBytes}
+use Rattle.statements.specs.Statements.{Machine, Response, turn, accepted, recordedCount, recorded, treeOf, imageOf}
+use Rattle.statements.specs.Statements.{secretResult, Alike, loads, pokes, peeks, clears, calls, previews, bothDone, bothRefused}
+use Rattle.statements.specs.Statements.{InForce, nothing, SameAnswer, SameResponse}
 use Rattle.secrecy.specs.Agreement.{Agree, agree-zeroed, cellSecret}
 use Rattle.secrecy.specs.Lending.{length-wordsOf, wordsOf-lent, length-lent, take-lent}
 use Rattle.secrecy.specs.Usable.{usable-load}
@@ -68,38 +68,32 @@ module _ (image cells cells′ : List ℕ) (force : InForce image) (size : lengt
           → Statements.PublicCells (imageOf image) (lent cells ws) (lent cells′ ws′)
       by-pair (paired f s b) = public-cells (imageOf image) b
 
+  -- answers that are alike, traces in which the same words were recorded, and cells that agree
+  responded : {secret : Bool} (a b : Answer) (t u ws ws′ : List ℕ) → SameAnswer secret a b → recorded a t ≡ recorded b u
+      → Agree (length (wordsOf cells)) (cellSecret (imageOf image .arrays)) ws ws′
+      → Turned secret (record { answer = a; trace = t; after = record { image = image; cells = lent cells ws } })
+      (record { answer = b; trace = u; after = record { image = image; cells = lent cells′ ws′ } })
+  responded a b t u ws ws′ answers traces agree =
+      record {
+        same = record { answers = answers; traces = traces; images = refl; inForce = force; cells = cells-after ws ws′ agree };
+        next = after-request ws ws′ agree;
+      }
+
   -- a request without a trace
   turned : {secret : Bool} (x y : Served) → ServedAlike secret (length (wordsOf cells)) (imageOf image .arrays) x y
       → Turned secret (record { answer = x .0; trace = []; after = record { image = image; cells = lent cells (x .1) } })
       (record { answer = y .0; trace = []; after = record { image = image; cells = lent cells′ (y .1) } })
   unfolding wordsOf
   turned x y h =
-      record {
-        same = record {
-          answers = h .answers;
-          traces = take-none (recordedCount (x .0)) ∙ sym (take-none (recordedCount (y .0)));
-          images = refl;
-          inForce = force;
-          cells = cells-after (x .1) (y .1) (h .agree);
-        };
-        next = after-request (x .1) (y .1) (h .agree);
-      }
+      responded (x .0) (y .0) [] [] (x .1) (y .1) (h .answers) (take-none (recordedCount (x .0)) ∙ sym (take-none (recordedCount (y .0)))) (h .agree)
 
   -- a call
   turned-call : {secret : Bool} (trace trace′ : List ℕ) (x y : Called) → CalledAlike secret (length (wordsOf cells)) (imageOf image .arrays) x y
       → Turned secret (record { answer = x .0; trace = lent trace (x .2); after = record { image = image; cells = lent cells (x .1) } })
       (record { answer = y .0; trace = lent trace′ (y .2); after = record { image = image; cells = lent cells′ (y .1) } })
   turned-call trace trace′ x y h =
-      record {
-        same = record {
-          answers = h .answers;
-          traces = words trace (x .0) (x .2) (h .count) ∙ h .traces ∙ sym (words trace′ (y .0) (y .2) (h .count′));
-          images = refl;
-          inForce = force;
-          cells = cells-after (x .1) (y .1) (h .agree);
-        };
-        next = after-request (x .1) (y .1) (h .agree);
-      }
+      responded (x .0) (y .0) (lent trace (x .2)) (lent trace′ (y .2)) (x .1) (y .1) (h .answers)
+      (words trace (x .0) (x .2) (h .count) ∙ h .traces ∙ sym (words trace′ (y .0) (y .2) (h .count′))) (h .agree)
     where
       words : (b : List ℕ) (a : Answer) (t : List ℕ) → recordedCount a ≡ length t → take (recordedCount a) (wordsOf (lent b t)) ≡ t
       words b a t e = rw e (take-lent b t)
@@ -134,7 +128,7 @@ module _ (image cells cells′ : List ℕ) (force : InForce image) (size : lengt
 -- one turn
 pub turned-alike : {m n : Machine} {r s : Statements.Request} → Paired m n → Alike m r s
     → Turned (secretResult (imageOf (m .image)) r) (turn m r) (turn n s)
-unfolding turn loadBytes clearBytes pokeBytes peekBytes callBytes load
+unfolding turn loadBytes clearBytes pokeBytes peekBytes callBytes previewBytes load preview
 turned-alike (paired {image} {cells} {cells′} force size agree) (loads {image = bytes} f) =
     rw (agree .right) (turned-load image cells cells′ force size agree bytes
     (readyToLoad (wholeWords bytes) (wordsOf bytes) (length (wordsOf cells))) refl f)
@@ -157,3 +151,9 @@ turned-alike (paired {image} {cells} {cells′} force size agree) (calls {f} {bu
     (rw (same-count trace trace′ room)
     (same-call image (length (wordsOf cells)) (wordsOf cells) (wordsOf cells′) f (wordsOf arguments) (wordsOf arguments′) budget
     (length (wordsOf trace′)) (in-force-form force) agree (same-count arguments arguments′ count) e))
+turned-alike (paired {image} {cells} {cells′} force size agree) (previews {f} {budget} {arguments} {arguments′} {trace} {trace′} alike) =
+    let t = turned-alike (paired {image = image} {cells = cells} {cells′ = cells′} force size agree) alike in
+    let x : Called = call (wholeWords image) (wordsOf image) (wordsOf cells) f (wordsOf arguments) budget (length (wordsOf trace)) in
+    let y : Called = call (wholeWords image) (wordsOf image) (wordsOf cells′) f (wordsOf arguments′) budget (length (wordsOf trace′)) in
+    responded image cells cells′ force size (x .0) (y .0) (lent trace (x .2)) (lent trace′ (y .2)) (wordsOf cells) (wordsOf cells′)
+    (t .same .answers) (t .same .traces) agree

@@ -10,29 +10,34 @@ use Rattle.definitions.specs.Choice.{pick}
 use Rattle.definitions.specs.Bytes.{Bytes, wordsOf, bytesOf, lent}
 use Rattle.definitions.specs.Image.{Image, baseOf}
 use Rattle.definitions.specs.Requests.{Served, Called, carriedOut, unready, readyToLoad, readyToServe, calledOn}
-use Rattle.definitions.specs.Host.{wholeWords, loadBytes, clearBytes, pokeBytes, peekBytes, callBytes}
+use Rattle.definitions.specs.Host.{wholeWords, loadBytes, clearBytes, pokeBytes, peekBytes, callBytes, previewBytes}
 use Rattle.definitions.specs.declared.Answer.{Answer}
 use Rattle.definitions.specs.declared.Answer.the-variants.{Refused}
-use Rattle.laws.specs.ImageIn.{imageIn, length-limit}
-use Rattle.laws.specs.ReadImages.{open-image}
+use Rattle.laws.specs.ImageIn.{imageIn}
+use Rattle.laws.specs.Previews.{preview-is-call-on-a-copy}
 use Rattle.laws.specs.WordsOfBytes.{lent-front, length-wordsOf, lent-wordsOf}
 use Rattle.tables.specs.Table.{arraysIn}
 use Rattle.tables.specs.Looking.{image-short}
-use Rattle.requests.specs.Cells.{Fits, hasCellIn}
+use Rattle.requests.specs.Cells.{hasCellIn}
 use Rattle.requests.specs.OwnCells.{clearOn, pokeOn, peekOn}
-use Rattle.laws.specs.Ready.{serve-read}
 use Rattle.requests.specs.ByteRequests.{afterwards, afterCall, load-refused, clear-refused, poke-refused, peek-refused, call-refused}
 use Rattle.requests.specs.ByteRequests.{load-ready, clear-ready, poke-ready, peek-ready, call-ready}
-use Rattle.checker.specs.Left.{known-left, ends-left, read-tree, known-filled}
+use Rattle.checker.specs.Left.{ends-left}
 use Rattle.machine.specs.declared.Machine.{Machine}
 use Rattle.machine.specs.declared.Turn.{Turn}
 use Rattle.machine.specs.Turns.{held, Turned}
-use Rattle.machine.specs.Serving.{Serves, TurnedCall}
+use Rattle.machine.specs.Serving.{Serves, TurnedCall, TurnedPreview}
 use Rattle.ready.specs.declared.Ready.{Ready}
 use Rattle.ready.specs.declared.Ready.the-variants.{Cells, Unready}
-use Rattle.ready.specs.Prepared.{readied, readied-cells, readied-not, Prepared}
+use Rattle.ready.specs.Prepared.{readied, readied-not, Prepared}
 use Rattle.ready.proofs.Rules.{left-table}
 use Rattle.serving.proofs.Own.{Own, serve-own}
+
+-- a preview, from the call with its answer and its trace
+previewed : (image cells : List ℕ) (f : ℕ) (arguments : List ℕ) (budget : ℕ) (trace : List ℕ) → Bytes cells → (r : Answer) (after trace′ : List ℕ)
+    → (r, after, trace′) ≡ callBytes image cells f arguments budget trace → (r, cells, trace′) ≡ previewBytes image cells f arguments budget trace
+previewed image cells f arguments budget trace bytes r after trace′ e =
+    ap (λ (x : Called). (x .0, cells, x .2)) e ∙ sym (preview-is-call-on-a-copy image cells f arguments budget trace bytes)
 
 -- ---- a request that is refused
 
@@ -60,6 +65,11 @@ module _ (image cells : List ℕ) (bytes : Bytes cells) (r : Ready) (k p : ℕ) 
 
     pub call-not : (g : ℕ) (arguments : List ℕ) (budget : ℕ) (trace : List ℕ) → (Refused k p, cells, trace) ≡ callBytes image cells g arguments budget trace
     call-not g arguments budget trace = sym (call-refused cells bytes image k p not-ready g arguments budget trace)
+
+    pub preview-not : (g : ℕ) (arguments : List ℕ) (budget : ℕ) (trace : List ℕ)
+        → (Refused k p, cells, trace) ≡ previewBytes image cells g arguments budget trace
+    preview-not g arguments budget trace =
+        previewed image cells g arguments budget trace bytes (Refused k p) cells trace (call-not g arguments budget trace)
 
 -- ---- the machine's turn, whose cells go back
 
@@ -122,7 +132,7 @@ module _ (image cells table : List ℕ) (bytes : Bytes cells) (own : ℕ) (m : M
       ap (λ (x : Served). x .0) (turned .gives) ∙ (let s = o .arrays in rw (h, s)) in
       rw (d, peek-ready cells bytes image (o .tree) own (o .all) (o .enough) (o .is-ready) a i, peeked, front-back cells own bytes (o .enough))
 
--- ---- a call
+-- ---- a call and a preview
 
 pub called-back : (words cells after before trace : List ℕ) (own : ℕ) (m : Machine) (t : Turn) (f : ℕ) (arguments : List ℕ) (budget : ℕ) (r : Answer)
     → held m ≡ take own (wordsOf cells) → m .count ≡ own
@@ -171,3 +181,11 @@ module _ (image cells words words′ table ends : List ℕ) (bytes : Bytes cells
       d ∙ sym (call-ready cells bytes image (o .tree) own (o .all) (o .enough) (o .is-ready) g arguments budget before
       (calledOn (imageIn (take (length image / 4) words′)) (take own (wordsOf cells)) g (wordsOf arguments) budget (length (wordsOf before)))
       (ap (λ (i : Image). calledOn i (take own (wordsOf cells)) g (wordsOf arguments) budget (length (wordsOf before))) same))
+
+  pub preview-done : (m : Machine) → held m ≡ take own (wordsOf cells) → (t : Turn) (before trace : List ℕ) (g : ℕ) (arguments : List ℕ) (budget : ℕ)
+      → TurnedPreview m t before trace (calledOn (imageIn (take (length image / 4) words′)) (held m) g (wordsOf arguments) budget (length (wordsOf before)))
+      → (t .answer, cells, trace) ≡ previewBytes image cells g arguments budget before
+  preview-done m h t before trace g arguments budget turned =
+      let r : Called = calledOn (imageIn (take (length image / 4) words′)) (take own (wordsOf cells)) g (wordsOf arguments) budget (length (wordsOf before)) in
+      previewed image cells g arguments budget before bytes (t .answer) (bytesOf (r .1) ++ drop (4 * own) cells) trace
+      (call-done (t .answer) (bytesOf (r .1) ++ drop (4 * own) cells) before trace g arguments budget (rw (turned .answer, turned .trace, h)))

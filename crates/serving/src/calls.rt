@@ -17,7 +17,7 @@ ghost use Rattle.machine.specs.Serving.{Serves};
 ghost use Rattle.requests.specs.ByteRequests.{afterCall};
 
 // A small routine has so many bytes.
-const SMALL: usize = 256;
+pub const SMALL: usize = 256;
 
 // On the words of an image that is ready, with `own` cells.
 fn call_cells(

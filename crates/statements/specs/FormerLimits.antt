@@ -72,8 +72,8 @@ pub record WithinLimits (whole : Bool) (words : List ℕ) (tree : Image) : Type 
   pub limits : FitsImage tree
   pub short : length words ≤ largestImage (tree .form)
 
--- The answers that an image has by today's limits are those that it had by the former ones. A request on cells (load, clear, poke, peek, call) looks at
--- an image in `readyToLoad` alone.
+-- The answers that an image has by today's limits are those that it had by the former ones. A request on cells (load, clear, poke, peek, call,
+-- preview) looks at an image in `readyToLoad` alone.
 pub record SameAnswers (whole : Bool) (image : List ℕ) : Type 0 where
   pub checks : checked whole image ≡ verdict (withoutFault (formerReadImage whole image))
   pub compiles : (out : List ℕ) → compiled whole image out ≡ compiledTree (withoutFault (formerReadImage whole image)) out

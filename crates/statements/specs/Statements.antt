@@ -26,7 +26,7 @@ use Rattle.definitions.specs.Sorts.{imageSortFaults}
 use Rattle.definitions.specs.Labels.{imageLabelFaults}
 use Rattle.definitions.specs.Compiling.{compiledImage, fits}
 use Rattle.definitions.specs.Requests.{Called, hasCell}
-use Rattle.definitions.specs.Host.{wholeWords, loadBytes, clearBytes, pokeBytes, peekBytes, callBytes, checkBytes}
+use Rattle.definitions.specs.Host.{wholeWords, loadBytes, clearBytes, pokeBytes, peekBytes, callBytes, previewBytes, checkBytes}
 use Rattle.statements.specs.Limits.{FitsImage}
 
 -- ======== Property 1
@@ -103,7 +103,7 @@ pub record WithCell (image cells : List ℕ) (a i : ℕ) (tree : Image) : Type 0
   pub loadable : Loadable image cells tree
   pub present : hasCell tree a i ≡ true
 
--- Call: then "17 no such procedure"; then "18 argument count". "Bytes left over after the last whole word are ignored".
+-- Call and preview: then "17 no such procedure"; then "18 argument count". "Bytes left over after the last whole word are ignored".
 pub data NotCalled (image cells : List ℕ) (f : ℕ) (arguments : List ℕ) : ℕ → ℕ → Type 0 where
   unready-for-call : (k p : ℕ) → NotReady image cells k p → NotCalled image cells f arguments k p
   procedure-missing : (tree : Image) → Loadable image cells tree → length (tree .procedures) ≤ f → NotCalled image cells f arguments 17 0
@@ -250,18 +250,23 @@ abbrev pub withGuard : Procedure → List ℕ → List ℕ
 withGuard p arguments = arguments ++ pick (guarded p) (1 ∷ []) []
 
 -- The bytes of an image, which spell a source, and those of its compiled form. A call of any procedure with any arguments (and that 1), on equal
--- cells, under any two budgets and with any two lent traces, ends alike. Every other request has the same answer and leaves the same cells.
+-- cells, under any two budgets and with any two lent traces, ends alike, and so does a preview. Every other request has the same answer and leaves the
+-- same cells.
 pub record SameMeaning (image : List ℕ) (source : Image) (target : List ℕ) : Type 0 where
   pub calls :
       (cells : List ℕ) (f : ℕ) (arguments arguments′ : List ℕ) (budget budget′ : ℕ) (trace trace′ : List ℕ)
       → wordsOf arguments′ ≡ withGuard (procedureAt (source .procedures) f) (wordsOf arguments)
       → EndAlike (callBytes image cells f arguments budget trace) (callBytes target cells f arguments′ budget′ trace′)
+  pub previews :
+      (cells : List ℕ) (f : ℕ) (arguments arguments′ : List ℕ) (budget budget′ : ℕ) (trace trace′ : List ℕ)
+      → wordsOf arguments′ ≡ withGuard (procedureAt (source .procedures) f) (wordsOf arguments)
+      → EndAlike (previewBytes image cells f arguments budget trace) (previewBytes target cells f arguments′ budget′ trace′)
   pub loads : (cells : List ℕ) → loadBytes target cells ≡ loadBytes image cells
   pub clears : (cells : List ℕ) → clearBytes target cells ≡ clearBytes image cells
   pub pokes : (cells : List ℕ) (a i v : ℕ) → pokeBytes target cells a i v ≡ pokeBytes image cells a i v
   pub peeks : (cells : List ℕ) (a i : ℕ) → peekBytes target cells a i ≡ peekBytes image cells a i
 
--- ======== Property 3: "What demand 3 compares"
+-- ======== Property 3: "What demand 3 compares", and with it previews (document 02, wish 7)
 
 -- ---- A machine and its requests
 
@@ -285,8 +290,11 @@ pub data Request : Type 0 where
   clear : Request
   -- procedure, the arguments' bytes, budget, the lent trace's bytes
   call : ℕ → List ℕ → ℕ → List ℕ → Request
+  -- the same
+  preview : ℕ → List ℕ → ℕ → List ℕ → Request
 
--- What a request gives: its answer, what the lent trace holds (nothing is lent but for a call), and the machine that the next request finds.
+-- What a request gives: its answer, what the lent trace holds (nothing is lent but for a call or a preview), and the machine that the next request
+-- finds.
 pub record Response : Type 0 where
   pub answer : Answer
   pub trace : List ℕ
@@ -313,6 +321,9 @@ turn m clear =
     record { answer = r .0; trace = []; after = record { image = m .image; cells = r .1 } }
 turn m (call f arguments budget trace) =
     let r : Answer × List ℕ × List ℕ = callBytes (m .image) (m .cells) f arguments budget trace in
+    record { answer = r .0; trace = r .2; after = record { image = m .image; cells = r .1 } }
+turn m (preview f arguments budget trace) =
+    let r : Answer × List ℕ × List ℕ = previewBytes (m .image) (m .cells) f arguments budget trace in
     record { answer = r .0; trace = r .2; after = record { image = m .image; cells = r .1 } }
 
 -- all turns of a list of requests, each on the machine that the one before left
@@ -350,12 +361,14 @@ secretResult image (poke a i v) = false
 secretResult image (peek a i) = secretCell image a i
 secretResult image clear = false
 secretResult image (call f arguments budget trace) = typeSecret (procedureAt (image .procedures) f .result)
+secretResult image (preview f arguments budget trace) = typeSecret (procedureAt (image .procedures) f .result)
 
 -- ---- What may differ between the two lists
 
 -- Two requests at one turn, on machines of which the first is given: "Secret arguments and words poked into secret cells may differ. All else the host
 -- passes is equal, apart from what the lent cells and trace slices hold". "Compiled means form 1, whoever wrote the words; a refused load may
--- bring any image, the same on both machines."
+-- bring any image, the same on both machines." "Previews may stand in any sequence a prying host makes": two previews differ at most in what two
+-- calls may differ in.
 pub data Alike (m : Machine) : Request → Request → Type 0 where
   loads : {image : List ℕ} → (accepted (turn m (load image) .answer) ≡ true → imageOf image .form ≡ 1) → Alike m (load image) (load image)
   pokes : {a i v w : ℕ} → (secretCell (imageOf (m .image)) a i ≡ false → v ≡ w) → Alike m (poke a i v) (poke a i w)
@@ -366,6 +379,8 @@ pub data Alike (m : Machine) : Request → Request → Type 0 where
       → ((k : ℕ) → secretArgument (imageOf (m .image)) f k ≡ false → getD (wordsOf arguments) k 0 ≡ getD (wordsOf arguments′) k 0)
       → length trace ≡ length trace′
       → Alike m (call f arguments budget trace) (call f arguments′ budget trace′)
+  previews : {f budget : ℕ} {arguments arguments′ trace trace′ : List ℕ} → Alike m (call f arguments budget trace) (call f arguments′ budget trace′)
+      → Alike m (preview f arguments budget trace) (preview f arguments′ budget trace′)
 
 -- "Two lists of requests .. stand side by side, of one length and with the same kind of request at each turn". By the image in force of the first
 -- machine as it goes from request to request; that the second has the same one in force is a conclusion.

@@ -18,7 +18,7 @@ module _ (r : Answer) (after : List ℕ) (x : Answer × List ℕ) (e : (r, after
   both answer answer′ h =
       (ap (λ (y : Answer × List ℕ). y .1) e, h ∙ ap (λ (y : Answer × List ℕ). answerBytes answer (answerWords (y .0))) e)
 
--- a call, with the trace afterwards
+-- a call or a preview, with the trace afterwards
 module _ (r : Answer) (after trace : List ℕ) (x : Answer × List ℕ × List ℕ) (e : (r, after, trace) ≡ x) where
   pub call-fits : answerPlace (x .0) < 4294967296 → answerPlace r < 4294967296
   call-fits h = let z : r ≡ x .0 = ap (λ (y : Answer × List ℕ × List ℕ). y .0) e in rw z h

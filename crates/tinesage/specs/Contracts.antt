@@ -4,8 +4,8 @@ use mathlib.Core.Path.{_≡_}
 use mathlib.Core.List.{List}
 use Prim.Native.Nat.{ℕ}
 use Rattle.definitions.specs.declared.Answer.{Answer}
-use Rattle.definitions.specs.Host.{loadBytes, clearBytes, pokeBytes, peekBytes, callBytes, checkBytes, compileBytes, describeBytes}
-use Rattle.definitions.specs.Host.{answerWords, checkedWords, compiledWords, answerBytes}
+use Rattle.definitions.specs.Host.{loadBytes, clearBytes, pokeBytes, peekBytes, callBytes, previewBytes, checkBytes, compileBytes}
+use Rattle.definitions.specs.Host.{describeBytes, answerWords, checkedWords, compiledWords, answerBytes}
 
 -- the slice lent for the answer holds the answer's seven words, where there is room for them
 abbrev pub Answers : Answer → List ℕ → List ℕ → Type 0
@@ -48,3 +48,9 @@ abbrev pub Calls : List ℕ → List ℕ → ℕ → List ℕ → ℕ → List �
 Calls image cells procedure arguments budget trace answer cells′ trace′ answer′ =
     (cells′ ≡ callBytes image cells procedure arguments budget trace .1) × (trace′ ≡ callBytes image cells procedure arguments budget trace .2)
     × Answers (callBytes image cells procedure arguments budget trace .0) answer answer′
+
+-- tinesage_preview, which lends its cells to be read: the definition's cells afterwards are those before
+abbrev pub Previews : List ℕ → List ℕ → ℕ → List ℕ → ℕ → List ℕ → List ℕ → List ℕ → List ℕ → Type 0
+Previews image cells procedure arguments budget trace answer trace′ answer′ =
+    (cells ≡ previewBytes image cells procedure arguments budget trace .1) × (trace′ ≡ previewBytes image cells procedure arguments budget trace .2)
+    × Answers (previewBytes image cells procedure arguments budget trace .0) answer answer′

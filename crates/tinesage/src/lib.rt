@@ -1,6 +1,6 @@
 // The library's C functions. Slices cross as a pointer and a length in bytes, words most significant byte first. Each writes its answer as seven
 // words into the slice lent for it. No function has a condition: every number and every byte gets its answer.
-ghost use Rattle.tinesage.specs.Contracts.{Checks, Compiles, Describes, Loads, Clears, Pokes, Peeks, Calls};
+ghost use Rattle.tinesage.specs.Contracts.{Checks, Compiles, Describes, Loads, Clears, Pokes, Peeks, Calls, Previews};
 
 // Checks an image.
 #[no_mangle]
@@ -93,5 +93,23 @@ pub extern "C" fn tinesage_call(
         (now (cells .exit)) (now (trace .exit)) (now (answer .exit)) ⌝ }
 {
     let a = serving::calls::call(image, cells, procedure, arguments, budget, trace);
+    answers::put_answer(answer, a);
+}
+
+// Runs a procedure on a copy of the cells.
+#[no_mangle]
+pub extern "C" fn tinesage_preview(
+    image: &[u8],
+    cells: &[u8],
+    procedure: u32,
+    arguments: &[u8],
+    budget: u32,
+    trace: &mut [u8],
+    answer: &mut [u8],
+)
+    ensures { λ _. ⌜ Previews (now (image .entry)) (now (cells .entry)) procedure (now (arguments .entry)) budget (now (trace .entry)) (now (answer .entry))
+        (now (trace .exit)) (now (answer .exit)) ⌝ }
+{
+    let a = serving::previews::preview(image, cells, procedure, arguments, budget, trace);
     answers::put_answer(answer, a);
 }
