@@ -2,7 +2,8 @@
  * A short host. It compiles the paper's example image, loads source and compiled form in turn, and calls each with two
  * values of its secret parameter: the source's trace tells them apart, the compiled form's does not. Then it loads an
  * image with an array, pokes its cells and calls the procedure that adds them up, with a trace slice just as long as a
- * preview says that it has to be.
+ * preview says that it has to be. Last it compiles an image that adds two long numbers under a secret condition, and
+ * calls it with both values of the condition: the sum is stored or not, and the traces are equal to the last byte.
  */
 #include <stdio.h>
 #include <stdlib.h>
@@ -10,7 +11,7 @@
 
 #include "tinesage.h"
 
-#define TRACE_WORDS 64
+#define TRACE_WORDS 128
 #define BUDGET 100
 
 /* One secret parameter: returns 1 where it is 7, else 0. */
@@ -23,6 +24,19 @@ static const uint32_t example[] = {
 static const uint32_t adder[] = {
     0x10000101, 0x20010004, 0x30000002, 0x40000001, 0x40000000, 0x40000001, 0x50000002, 0x60030000, 0x70000000,
     0x70000004, 0x50000001, 0x60000001, 0xD0000000, 0xA0000001, 0xB0000000, 0xA0000000, 0x60040000, 0xA0000001,
+};
+
+/*
+ * Two secret arrays: a number of four cells of 16 bits, the lowest first, with a fifth for the carry, and one of four
+ * cells. Where the secret parameter is true, the second is added to the first, the carry of cell i going to cell i + 1;
+ * returns the fifth cell. It is examples/carry.image.
+ */
+static const uint32_t carry[] = {
+    0x10000201, 0x20010005, 0x20010004, 0x30000101, 0x40000001, 0x40000003, 0x40000000, 0x50000002, 0x60020000,
+    0xA0000000, 0x50000001, 0x60030001, 0x70000000, 0x70000004, 0x50000003, 0x60010000, 0xA0000001, 0xD0000000,
+    0xB0000000, 0xA0000001, 0xB0000001, 0xA0000001, 0x60010000, 0xD0000000, 0xA0000001, 0x70000001, 0xD0000000,
+    0xB0000000, 0xD0000000, 0x70000001, 0xA0000001, 0xD0000007, 0xB0000000, 0xA0000001, 0x70000010, 0x60010000,
+    0xA0000001, 0xD0000003, 0xB0000000, 0xA0000001, 0x7000FFFF, 0x50000000, 0x60040000, 0xB0000000, 0x70000004,
 };
 
 /* what this host lends */
@@ -130,16 +144,58 @@ static size_t previewed_words(void)
     return (size_t)a.count;
 }
 
-static void add_up(void)
+static void poke(uint32_t array, uint32_t index, uint32_t value)
 {
     uint8_t answer[TINESAGE_ANSWER];
+    tinesage_poke(image, image_length, cells, sizeof cells, array, index, value, answer, sizeof answer);
+    expect_done("poke", tinesage_read_answer(answer));
+}
+
+static void add_up(void)
+{
     take_image(adder, sizeof adder / sizeof adder[0]);
     load();
-    for (uint32_t i = 0; i < 4; i++) {
-        tinesage_poke(image, image_length, cells, sizeof cells, 0, i, 10 * (i + 1), answer, sizeof answer);
-        expect_done("poke", tinesage_read_answer(answer));
-    }
+    for (uint32_t i = 0; i < 4; i++)
+        poke(0, i, 10 * (i + 1));
     call("cells 10, 20, 30, 40", NULL, 0, previewed_words());
+}
+
+/* a number of 64 bits in four cells */
+static void poke_number(uint32_t array, uint64_t number)
+{
+    for (uint32_t i = 0; i < 4; i++)
+        poke(array, i, (uint32_t)(number >> 16 * i & 0xFFFF));
+}
+
+/* calls procedure 0 with a condition and prints the five cells of array 0, the highest first */
+static void add_where(uint32_t condition)
+{
+    uint8_t arguments[4], answer[TINESAGE_ANSWER];
+    tinesage_put_word(arguments, 0, condition);
+    tinesage_call(image, image_length, cells, sizeof cells, 0, arguments, sizeof arguments, BUDGET, trace, sizeof trace,
+                  answer, sizeof answer);
+    struct tinesage_answer a = tinesage_read_answer(answer);
+    expect_done("call", a);
+    printf("  condition %u: %X", (unsigned)condition, (unsigned)tinesage_word(cells, 4));
+    for (size_t i = 4; i-- > 0;)
+        printf(" %04X", (unsigned)tinesage_word(cells, i));
+    printf(" in %u steps, %u trace words\n", (unsigned)a.steps, (unsigned)a.count);
+}
+
+static void add_under_condition(void)
+{
+    uint8_t trace_without[sizeof trace];
+    take_image(carry, sizeof carry / sizeof carry[0]);
+    compile();
+    load();
+    poke_number(0, 0x123456789ABCDEF0);
+    poke_number(1, 0xFEDCBA9876543211);
+    memset(trace, 0, sizeof trace);
+    add_where(0);
+    memcpy(trace_without, trace, sizeof trace);
+    memset(trace, 0, sizeof trace);
+    add_where(1);
+    puts(memcmp(trace_without, trace, sizeof trace) == 0 ? "  the traces are equal" : "  the traces differ");
 }
 
 int main(void)
@@ -157,5 +213,8 @@ int main(void)
 
     puts("An array of four cells, added up:");
     add_up();
+
+    puts("A number of 64 bits added to another under a secret condition, compiled:");
+    add_under_condition();
     return 0;
 }

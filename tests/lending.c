@@ -1,6 +1,7 @@
 /*
  * What each lent byte holds after a request: slices with spare words and odd lengths, slices that are too short for the
- * answer, refusals and stops. A preview is held to the call with the same arguments: the same bytes, and no cell.
+ * answer, refusals and stops. A preview is held to the call with the same arguments: the same bytes, and no cell. A
+ * routine whose index is a loop variable plus a constant is held to sums that are computed here.
  * Prints 'N passed, M failed' as its last line; a preview that writes to cells which it may only read ends the program
  * before that line.
  */
@@ -517,6 +518,159 @@ static void preview_cases(void)
     }
 }
 
+/* ---- an index that is a loop variable plus a constant, under a secret condition ---- */
+
+/*
+ * Array 0 is a number of four cells of 16 bits, the lowest first, with a fifth for the carry; array 1 one of four.
+ * Where the secret parameter is true, array 1 is added to array 0, the carry of cell i going to cell i + 1.
+ */
+static const uint32_t carry_words[] = {
+    0x10000201, 0x20010005, 0x20010004, 0x30000101, 0x40000001, 0x40000003, 0x40000000, 0x50000002, 0x60020000,
+    0xA0000000, 0x50000001, 0x60030001, 0x70000000, 0x70000004, 0x50000003, 0x60010000, 0xA0000001, 0xD0000000,
+    0xB0000000, 0xA0000001, 0xB0000001, 0xA0000001, 0x60010000, 0xD0000000, 0xA0000001, 0x70000001, 0xD0000000,
+    0xB0000000, 0xD0000000, 0x70000001, 0xA0000001, 0xD0000007, 0xB0000000, 0xA0000001, 0x70000010, 0x60010000,
+    0xA0000001, 0xD0000003, 0xB0000000, 0xA0000001, 0x7000FFFF, 0x50000000, 0x60040000, 0xB0000000, 0x70000004,
+};
+
+/* the same compiled, worked out by hand from the paper: docs/IMAGE.md has a line for each word */
+static const uint32_t carry_compiled[] = {
+    0x10010201, 0x20010005, 0x20010004, 0x30000103, 0x40000001, 0x40000003, 0x40000000, 0x40000003, 0x40000003,
+    0x50000004, 0x60000002, 0xA0000000, 0x60000003, 0xC0000000, 0xA0000002, 0x60030001, 0x70000000, 0x70000004,
+    0x50000003, 0x60010000, 0xA0000001, 0xE0000000, 0xA0000002, 0xD0000000, 0xB0000000, 0xA0000001, 0xB0000001,
+    0xA0000001, 0xB0000000, 0xA0000001, 0x60010000, 0xD0000000, 0xA0000001, 0x70000001, 0xE0000000, 0xA0000002,
+    0xD0000000, 0xB0000000, 0xD0000000, 0x70000001, 0xA0000001, 0xD0000007, 0xB0000000, 0xA0000001, 0x70000010,
+    0xB0000000, 0xD0000000, 0xA0000001, 0x70000001, 0x60010000, 0xA0000001, 0xE0000000, 0xA0000002, 0xD0000003,
+    0xB0000000, 0xA0000001, 0x7000FFFF, 0xB0000000, 0xA0000001, 0x60040000, 0xB0000000, 0x70000004,
+};
+
+#define CARRY_SOURCE (sizeof carry_words)
+#define CARRY_COMPILED (sizeof carry_compiled)
+#define CARRY_CELLS (4 * 9 + 3)
+/* a compiled call records 52 entries, so many words, and takes so many steps */
+#define CARRY_TRACE 104
+#define CARRY_STEPS 20
+
+static uint8_t carry_image[CARRY_COMPILED], carry_trace[2][4 * CARRY_TRACE];
+
+static void put_words(uint8_t *bytes, const uint32_t *words, size_t length)
+{
+    for (size_t i = 0; i < length / 4; i++)
+        tinesage_put_word(bytes, i, words[i]);
+}
+
+static void carry_compile_case(void)
+{
+    uint8_t carry_source[CARRY_SOURCE];
+    put_words(carry_source, carry_words, CARRY_SOURCE);
+    reset_all();
+    tinesage_compile(carry_source, CARRY_SOURCE, out.lent, LONGEST, answer.lent, answer_length);
+    expect_answer(&answer, (const uint32_t[7]){0, 0, 0, 0, 0, 0, CARRY_COMPILED / 4});
+    put_words(out.expected, carry_compiled, CARRY_COMPILED);
+    expect_all("carry chain: compiled to the words that the paper gives");
+    put_words(carry_image, carry_compiled, CARRY_COMPILED);
+}
+
+/* a number in four cells of a slice */
+static void put_number(uint8_t *bytes, size_t first, uint64_t number)
+{
+    for (size_t i = 0; i < 4; i++)
+        tinesage_put_word(bytes, first + i, (uint32_t)(number >> 16 * i & 0xFFFF));
+}
+
+static void expect_sum(int added, uint64_t left, uint64_t right)
+{
+    put_number(cells.expected, 0, added ? left + right : left);
+    tinesage_put_word(cells.expected, 4, added && left + right < left ? 1 : 0);
+    put_number(cells.expected, 5, right);
+}
+
+static void carry_run(uint32_t condition, int preview)
+{
+    uint8_t arguments[4];
+    tinesage_put_word(arguments, 0, condition);
+    memset(carry_trace[condition], 0, sizeof carry_trace[condition]);
+    if (preview)
+        tinesage_preview(carry_image, CARRY_COMPILED, cells.lent, CARRY_CELLS, 0, arguments, 4, CARRY_STEPS,
+                         carry_trace[condition], sizeof carry_trace[condition], answer.lent, answer_length);
+    else
+        tinesage_call(carry_image, CARRY_COMPILED, cells.lent, CARRY_CELLS, 0, arguments, 4, CARRY_STEPS,
+                      carry_trace[condition], sizeof carry_trace[condition], answer.lent, answer_length);
+}
+
+/* with the condition false and true: only the sum differs, and a preview leaves the cells */
+static void carry_sum_cases(uint64_t left, uint64_t right)
+{
+    for (uint32_t condition = 0; condition < 2; condition++) {
+        uint32_t carried = condition == 1 && left + right < left ? 1 : 0;
+        reset_all();
+        tinesage_load(carry_image, CARRY_COMPILED, cells.lent, CARRY_CELLS, answer.lent, answer_length);
+        put_number(cells.lent, 0, left);
+        put_number(cells.lent, 5, right);
+        carry_run(condition, 1);
+        expect_sum(0, left, right);
+        expect_answer(&answer, (const uint32_t[7]){0, 0, 0, carried, CARRY_STEPS, 0, CARRY_TRACE});
+        expect_all("carry chain: a preview answers and leaves the cells");
+        carry_run(condition, 0);
+        expect_sum(condition == 1, left, right);
+        expect_all("carry chain: a call adds where the condition is true");
+    }
+    expect("carry chain: one trace for both conditions", memcmp(carry_trace[0], carry_trace[1], 4 * CARRY_TRACE) == 0);
+}
+
+/* the indices of the second pass: cell 1 and, three times, the cell after it, as docs/IMAGE.md has them */
+static void carry_trace_case(void)
+{
+    static const uint32_t pass[] = {
+        0x40000013, 1, 0x40000018, 1, 0x4000001A, 1, 0x4000001C, 1, 0x4000001E, 2, 0x40000025, 2,
+        0x4000002A, 1, 0x90000029, 16, 0x4000002D, 2, 0x40000031, 1, 0x40000036, 1, 0x40000039, 1,
+    };
+    int same = 1;
+    for (size_t i = 0; i < sizeof pass / sizeof pass[0]; i++)
+        same = same && tinesage_word(carry_trace[1], 4 + 24 + i) == pass[i];
+    expect("carry chain: the entries of a pass", same);
+}
+
+static void carry_cases(void)
+{
+    static const uint64_t numbers[] = {0, 1, 0xFFFF, 0x10000, 0xFFFFFFFFFFFF, 0x123456789ABCDEF0, 0xFEDCBA9876543211,
+                                       0xFFFFFFFFFFFFFFFF};
+    carry_compile_case();
+    for (size_t i = 0; i < sizeof numbers / sizeof numbers[0]; i++)
+        for (size_t k = 0; k < sizeof numbers / sizeof numbers[0]; k++)
+            carry_sum_cases(numbers[i], numbers[k]);
+    carry_trace_case();
+}
+
+/* a guarded body stores 0 at i plus a constant in an array of 16 cells, for i within bounds: 11 at word 11, or not */
+static void expect_bounded(const char *what, uint32_t from, uint32_t to, uint32_t constant, int bounded)
+{
+    const uint32_t words[] = {0x10000101, 0x20010010, 0x30010001, 0x40000001, 0x40000000, 0x50000001, 0x60030000,
+                              0x70000000 | from, 0x70000000 | to, 0x50000001, 0x60010000, 0xD0000000, 0xA0000000};
+    uint8_t bytes[sizeof words + 12];
+    size_t count = sizeof words / 4;
+    put_words(bytes, words, sizeof words);
+    if (constant >= 0x10000000)
+        tinesage_put_word(bytes, count++, 0x80000000);
+    tinesage_put_word(bytes, count++, constant >= 0x10000000 ? constant : 0x70000000 | constant);
+    tinesage_put_word(bytes, count++, 0x70000000);
+    reset_all();
+    tinesage_check(bytes, 4 * count, answer.lent, answer_length);
+    expect_answer(&answer, bounded ? (const uint32_t[7]){0} : (const uint32_t[7]){2, 11, 11});
+    expect_all(what);
+}
+
+static void bounded_cases(void)
+{
+    expect_bounded("check: one under the length", 0, 15, 0, 1);
+    expect_bounded("check: just at the length", 0, 15, 1, 1);
+    expect_bounded("check: one over the length", 0, 15, 2, 0);
+    expect_bounded("check: a sum that wraps", 1, 2, 0xFFFFFFFF, 0);
+    expect_bounded("check: a sum that wraps to 0", 0, 1, 0xFFFFFFFF, 0);
+    expect_bounded("check: no pass", 20, 17, 0, 1);
+    expect_bounded("check: no pass, the bounds are equal", 5, 5, 0xFFFFFFFF, 1);
+    expect_bounded("check: no pass, up to 0", 0, 0, 0x10000000, 1);
+}
+
 int main(void)
 {
     setvbuf(stdout, NULL, _IOLBF, 0);
@@ -533,6 +687,8 @@ int main(void)
     stop_and_refusal_cases();
     answer_cases();
     preview_cases();
+    carry_cases();
+    bounded_cases();
     printf("%u passed, %u failed\n", passed, failed);
     return failed == 0 ? EXIT_SUCCESS : EXIT_FAILURE;
 }

@@ -28,10 +28,10 @@ enum leaf { RETURN, ASSIGN, STORE, CALL, CALL_WITH_ARGUMENTS, LEAVES };
 static const char *const leaf_names[] = {"return", "assign", "store", "call", "call with arguments"};
 
 enum operators { COMPLEMENT, ADD_FIRST, ADD_SECOND, SELECT_CONDITION, SELECT_FIRST, SELECT_SECOND, DIVIDE_FIRST,
-                 DIVIDE_SECOND, SHIFT_SECOND, INDEX, OPERATORS };
+                 DIVIDE_SECOND, SHIFT_SECOND, INDEX, NEIGHBOUR, OPERATORS };
 static const char *const operator_names[] = {"complement",   "add, first",    "add, second", "select, condition",
                                              "select, first", "select, second", "divide, first", "divide, second",
-                                             "shift, second", "index"};
+                                             "shift, second", "index",         "loop variable plus 3 as index"};
 
 /* what an image is made of: `depth` ifs or fors, the statement in them, and the operators under it */
 struct shape {
@@ -91,6 +91,17 @@ static void push_condition(struct image *image, uint32_t level, uint32_t last)
 
 static void push_expression(struct image *image, enum operators operators, uint32_t level, uint32_t last);
 
+/* the variable of the innermost for, which runs from 0 to 1; set for each image */
+static uint32_t innermost;
+
+/* an index that a secret context allows: that variable plus 3, the last of four cells */
+static void push_neighbour(struct image *image)
+{
+    push(image, 0xD0000000);
+    push(image, 0xA0000000 | innermost);
+    push(image, 0x70000003);
+}
+
 /* an operator with words before and after its deep operand; 0 is no word */
 static void push_operator(struct image *image, enum operators operators, uint32_t level, uint32_t last,
                           const uint32_t words[4])
@@ -116,8 +127,12 @@ static void push_expression(struct image *image, enum operators operators, uint3
         [DIVIDE_SECOND] = {0xD0000009, 0x70000001},
         [SHIFT_SECOND] = {0xD0000006, 0x70000001},
         [INDEX] = {0xB0000000},
+        [NEIGHBOUR] = {0xC0000001},
     };
-    if (level >= last) {
+    if (operators == NEIGHBOUR && level + 2 >= last) {
+        push(image, 0xB0000000);
+        push_neighbour(image);
+    } else if (level >= last) {
         push(image, operators == INDEX ? 0x70000000 : 0x70000001);
     } else if (operators == SELECT_CONDITION) {
         push(image, 0xE0000000);
@@ -146,6 +161,8 @@ static void push_leaf(struct image *image, const struct shape *s, uint32_t numbe
     }
     if (s->leaf == ASSIGN)
         push(image, 0x60000000 | first);
+    else if (s->leaf == STORE && s->operators == NEIGHBOUR)
+        push(image, 0x60010001), push_neighbour(image);
     else if (s->leaf == STORE)
         push(image, 0x60010001), push(image, 0x70000000);
     else
@@ -211,6 +228,15 @@ static void push_procedure(struct image *image, const struct shape *s, uint32_t 
     push_block(image, s, number, s->depth, 1);
 }
 
+/* how many ifs and fors are left at the innermost for; 0 where there is none */
+static uint32_t left_at_innermost(const struct shape *s)
+{
+    uint32_t left = 1;
+    while (left <= s->depth && !is_for(s, left))
+        left++;
+    return left <= s->depth ? left : 0;
+}
+
 /* a procedure of assignments, so that the image has exactly `count` words */
 static void push_padding(struct image *image, uint32_t count)
 {
@@ -235,6 +261,7 @@ static uint32_t called(const struct shape *s)
 static void make_image(struct image *image, const struct shape *s)
 {
     uint32_t chain = called(s) + 1;
+    innermost = parameters(s) + 1 + left_at_innermost(s);
     image->count = 0;
     push(image, 0x10000200 | s->form << 16 | (chain + (s->longest ? 1 : 0)));
     push(image, 0x20000004);
@@ -252,6 +279,8 @@ static bool admitted(const struct shape *s)
     if (secret(s) && (s->operators == INDEX || s->operators == DIVIDE_SECOND))
         return false;
     if (s->leaf == CALL && s->operators != COMPLEMENT)
+        return false;
+    if (s->operators == NEIGHBOUR && (left_at_innermost(s) == 0 || level + 3 > last))
         return false;
     if (s->longest && (s->leaf != RETURN || s->operators != COMPLEMENT))
         return false;

@@ -10,6 +10,7 @@ use crate::check::check;
 use crate::damage::{bend, damage, random_word};
 use crate::image::Form;
 use crate::limits::limit_image;
+use crate::neighbours::neighbour_image;
 use crate::program::{program, Shape, Slip};
 use crate::protocol::{push_words, Driver};
 use crate::random::Random;
@@ -88,13 +89,14 @@ impl<W: Write> Generator<W> {
 
     fn case(&mut self) -> io::Result<()> {
         match self.random.below(100) {
-            0..=39 => self.source_case(),
-            40..=51 => self.compiled_case(),
-            52..=65 => self.slipped_case(),
-            66..=75 => self.bent_case(),
-            76..=85 => self.damaged_case(),
-            86 | 87 => self.noise_case(),
-            88..=93 => self.limit_case(),
+            0..=35 => self.source_case(),
+            36..=46 => self.compiled_case(),
+            47..=55 => self.neighbour_case(),
+            56..=68 => self.slipped_case(),
+            69..=77 => self.bent_case(),
+            78..=86 => self.damaged_case(),
+            87 | 88 => self.noise_case(),
+            89..=93 => self.limit_case(),
             _ => self.changing_session(),
         }
     }
@@ -124,9 +126,13 @@ impl<W: Write> Generator<W> {
     fn source_case(&mut self) -> io::Result<()> {
         let source = self.valid_program(Form::Source);
         self.send_image("check", &source)?;
-        let compiled = self.compile(&source)?;
-        self.describe(&source)?;
-        self.session(&source)?;
+        self.both_forms(&source)
+    }
+
+    fn both_forms(&mut self, source: &[u32]) -> io::Result<()> {
+        let compiled = self.compile(source)?;
+        self.describe(source)?;
+        self.session(source)?;
         if let Some(compiled) = compiled {
             if self.random.chance(40) {
                 self.send_image("check", &compiled)?;
@@ -174,6 +180,22 @@ impl<W: Write> Generator<W> {
             self.send_image("compile 20000", &image)?;
         }
         self.session(&image)
+    }
+
+    /// Images with the variable of a for plus a constant as an index; one that
+    /// is accepted is used in both forms. The comment is for whoever counts.
+    fn neighbour_case(&mut self) -> io::Result<()> {
+        for _ in 0..self.random.between(3, 6) {
+            let image = neighbour_image(&mut self.random);
+            self.send("# neighbour cells".to_string())?;
+            if self.send_image("check", &image)? == "ok" {
+                self.both_forms(&image)?;
+            } else if self.random.chance(25) {
+                self.send_image("compile 20000", &image)?;
+                self.session(&image)?;
+            }
+        }
+        Ok(())
     }
 
     /// Programs with a rule or two broken.

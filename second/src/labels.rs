@@ -83,11 +83,34 @@ impl Context {
     }
 }
 
-/// A for whose block is being walked; `bound` is its upper bound if both
-/// bounds are constants.
+/// A for whose block is being walked; `range` is there if both bounds are
+/// constants.
 struct OpenLoop {
     variable: u32,
-    bound: Option<u32>,
+    range: Option<Range>,
+}
+
+/// The values from `from` up to, not including, `to`.
+#[derive(Clone, Copy)]
+struct Range {
+    from: u32,
+    to: u32,
+}
+
+impl Range {
+    fn of(from: &Expression, to: &Expression) -> Option<Range> {
+        Some(Range { from: from.constant()?, to: to.constant()? })
+    }
+
+    fn is_empty(self) -> bool {
+        self.from >= self.to
+    }
+
+    /// Whether the largest value plus a constant is below the length, in whole
+    /// numbers: a sum that wraps is far above every length.
+    fn stays_below(self, constant: u32, length: u32) -> bool {
+        self.is_empty() || u64::from(self.to) - 1 + u64::from(constant) < u64::from(length)
+    }
 }
 
 struct Walk<'a> {
@@ -168,8 +191,7 @@ impl Walk<'_> {
         self.bound(from, context);
         self.bound(to, context);
         let rc = rc_after(self.image, self.procedure, body, context);
-        let bound = from.constant().and(to.constant());
-        self.loops.push(OpenLoop { variable, bound });
+        self.loops.push(OpenLoop { variable, range: Range::of(from, to) });
         self.block(body, Context { pc: context.pc, rc });
         self.loops.pop();
         rc
@@ -229,16 +251,33 @@ impl Walk<'_> {
         label
     }
 
-    /// By form alone: a small enough constant, or the variable of a for with
-    /// constant bounds that ends in time. Whether the for has a pass is not asked.
+    /// By form alone: a small enough constant, the variable of a for with
+    /// constant bounds that ends in time, or such a variable plus a constant.
+    /// Whether the for has a pass is asked only of the sum.
     fn surely_inside(&self, index: &Expression, length: u32) -> bool {
-        match index.node {
-            Node::Constant(value) => value < length,
-            Node::Variable(variable) => self.loops.iter().any(|open| {
-                open.variable == variable && open.bound.is_some_and(|bound| bound <= length)
-            }),
+        match &index.node {
+            Node::Constant(value) => *value < length,
+            Node::Variable(variable) => {
+                self.range_of(*variable).is_some_and(|range| range.to <= length)
+            }
+            Node::Binary { operator: Binary::Add, operands } => self.sum_inside(operands, length),
             _ => false,
         }
+    }
+
+    /// Document 02, wish 2: one variable and one constant, in either order.
+    fn sum_inside(&self, operands: &[Expression; 2], length: u32) -> bool {
+        let (variable, constant) = match (&operands[0].node, &operands[1].node) {
+            (Node::Variable(variable), Node::Constant(constant))
+            | (Node::Constant(constant), Node::Variable(variable)) => (*variable, *constant),
+            _ => return false,
+        };
+        self.range_of(variable).is_some_and(|range| range.stays_below(constant, length))
+    }
+
+    /// No two fors around a word share a variable, so there is at most one.
+    fn range_of(&self, variable: u32) -> Option<Range> {
+        self.loops.iter().find(|open| open.variable == variable)?.range
     }
 
     /// Checks an expression and answers its label.

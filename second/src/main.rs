@@ -14,6 +14,7 @@ mod interpreter;
 mod labels;
 mod limits;
 mod machine;
+mod neighbours;
 mod operators;
 mod program;
 mod protocol;

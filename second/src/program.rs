@@ -79,12 +79,29 @@ struct ArrayShape {
     length: u32,
 }
 
-/// A for whose block is being written; `bound` is its upper bound if both
-/// bounds are constants.
+/// A for whose block is being written; `bounds` are there if both are
+/// constants.
 #[derive(Clone, Copy)]
 struct OpenLoop {
     variable: u32,
-    bound: Option<u32>,
+    bounds: Option<(u32, u32)>,
+}
+
+impl OpenLoop {
+    /// Whether the variable alone is an index that a secret context allows.
+    fn fits(self, length: u32) -> bool {
+        self.bounds.is_some_and(|(_, to)| to <= length)
+    }
+
+    /// The largest constant that may be added to the variable there.
+    fn most_added(self, length: u32) -> Option<u32> {
+        let (from, to) = self.bounds?;
+        if from >= to {
+            Some(u32::MAX)
+        } else {
+            length.checked_sub(to)
+        }
+    }
 }
 
 /// Where the next word stands. `may_defer` says whether a return may be put

@@ -18,7 +18,7 @@ use Rattle.definitions.specs.Reading.{readProcedure, readProcedures, readArrays
 use Rattle.definitions.specs.Faults.{least}
 use Rattle.definitions.specs.Sorts.{sortIn, markStatement, sortFaults, argumentFaults, statementSortFaults}
 use Rattle.definitions.specs.Sorts.{procedureSortFaults, proceduresSortFaults, imageSortFaults}
-use Rattle.definitions.specs.Labels.{secretIn, rcAfter, isConstant, constantValue, boundedIndex, labelFaults}
+use Rattle.definitions.specs.Labels.{secretIn, rcAfter, isConstant, constantValue, boundedSum, boundedIndex, labelFaults}
 use Rattle.definitions.specs.Labels.{argumentLabelFaults, statementLabelFaults, procedureLabelFaults}
 use Rattle.definitions.specs.Labels.{proceduresLabelFaults, imageLabelFaults}
 use Rattle.definitions.specs.Checking.{faultOf, withoutFault, admitted, verdict, checked}
@@ -115,5 +115,5 @@ example-has-no-shift = (refl, refl)
 
 -- Every case of the table holds.
 pub starred-hold : AllHold starred
-unfolding applyBinary applyUnary headerWord arrayWord procedureWord typeWord blockWord statementWord expressionWord rawWord placeOf cellCount baseOf readExpression readArguments readStatements readStatement readTypes readProcedure readProcedures readArrays readRest readImage least sortIn markStatement sortFaults argumentFaults statementSortFaults procedureSortFaults proceduresSortFaults imageSortFaults secretIn rcAfter isConstant constantValue boundedIndex labelFaults argumentLabelFaults statementLabelFaults procedureLabelFaults proceduresLabelFaults imageLabelFaults faultOf withoutFault admitted verdict checked flatMap expressionWords argumentWords statementCount statementWords blockWords procedureWords proceduresWords imageWords moved movedAll act masked under followedBy temporaries compiledIf compiledReturn compiledCall compiledStatement closed compiledTypes compiledBody compiledProcedure compiledProcedures compiledImage fitLocals written compiledTree compiled emit inArray indexAt divided shifted operated evaluate evaluateAll tick passes taken received runStatement frame finish runProcedure withCells readyToLoad readyToServe argumentValues ended calledOn servedCall call
+unfolding applyBinary applyUnary headerWord arrayWord procedureWord typeWord blockWord statementWord expressionWord rawWord placeOf cellCount baseOf readExpression readArguments readStatements readStatement readTypes readProcedure readProcedures readArrays readRest readImage least sortIn markStatement sortFaults argumentFaults statementSortFaults procedureSortFaults proceduresSortFaults imageSortFaults secretIn rcAfter isConstant constantValue boundedSum boundedIndex labelFaults argumentLabelFaults statementLabelFaults procedureLabelFaults proceduresLabelFaults imageLabelFaults faultOf withoutFault admitted verdict checked flatMap expressionWords argumentWords statementCount statementWords blockWords procedureWords proceduresWords imageWords moved movedAll act masked under followedBy temporaries compiledIf compiledReturn compiledCall compiledStatement closed compiledTypes compiledBody compiledProcedure compiledProcedures compiledImage fitLocals written compiledTree compiled emit inArray indexAt divided shifted operated evaluate evaluateAll tick passes taken received runStatement frame finish runProcedure withCells readyToLoad readyToServe argumentValues ended calledOn servedCall call
 starred-hold = (refl, (refl, (refl, (refl, (refl, (refl, (refl, (refl, (refl, (refl, tt))))))))))

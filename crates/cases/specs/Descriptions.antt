@@ -15,7 +15,7 @@ use Rattle.definitions.specs.Reading.{readProcedure, readProcedures, readArrays
 use Rattle.definitions.specs.Faults.{least}
 use Rattle.definitions.specs.Sorts.{sortIn, markStatement, sortFaults, argumentFaults, statementSortFaults}
 use Rattle.definitions.specs.Sorts.{procedureSortFaults, proceduresSortFaults, imageSortFaults}
-use Rattle.definitions.specs.Labels.{secretIn, rcAfter, isConstant, constantValue, boundedIndex, labelFaults}
+use Rattle.definitions.specs.Labels.{secretIn, rcAfter, isConstant, constantValue, boundedSum, boundedIndex, labelFaults}
 use Rattle.definitions.specs.Labels.{argumentLabelFaults, statementLabelFaults, procedureLabelFaults}
 use Rattle.definitions.specs.Labels.{proceduresLabelFaults, imageLabelFaults}
 use Rattle.definitions.specs.Checking.{faultOf, withoutFault, admitted}
@@ -40,5 +40,5 @@ pub described-so : Described example (0 ∷ 0 ∷ 1 ∷ 0 ∷ 0 ∷ 1 ∷ 1 ∷ 
     ∷ 0 ∷ 0 ∷ 2 ∷ 0 ∷ 0 ∷ 0 ∷ 0 ∷ 0 ∷ 0 ∷ 0 ∷ 0 ∷ 0 ∷ [])
     -- a word fewer is too few
     × _≡_ {A = Compiled × List ℕ} (described true example (replicate 15 7)) (Refused 16 0, replicate 15 7)
-unfolding applyBinary applyUnary headerWord arrayWord procedureWord typeWord blockWord statementWord expressionWord rawWord placeOf cellCount readExpression readArguments readStatements readStatement readTypes readProcedure readProcedures readArrays readRest readImage least sortIn markStatement sortFaults argumentFaults statementSortFaults procedureSortFaults proceduresSortFaults imageSortFaults secretIn rcAfter isConstant constantValue boundedIndex labelFaults argumentLabelFaults statementLabelFaults procedureLabelFaults proceduresLabelFaults imageLabelFaults faultOf withoutFault admitted flatMap parameterTypes procedureFields description describedTree described
+unfolding applyBinary applyUnary headerWord arrayWord procedureWord typeWord blockWord statementWord expressionWord rawWord placeOf cellCount readExpression readArguments readStatements readStatement readTypes readProcedure readProcedures readArrays readRest readImage least sortIn markStatement sortFaults argumentFaults statementSortFaults procedureSortFaults proceduresSortFaults imageSortFaults secretIn rcAfter isConstant constantValue boundedSum boundedIndex labelFaults argumentLabelFaults statementLabelFaults procedureLabelFaults proceduresLabelFaults imageLabelFaults faultOf withoutFault admitted flatMap parameterTypes procedureFields description describedTree described
 described-so = (refl, refl, refl, refl)

@@ -2,3 +2,4 @@ pub mod Cases
 pub mod Values
 pub mod Descriptions
 pub mod Previews
+pub mod Indices

@@ -1,13 +1,14 @@
--- Document 01, "Labels": labels, the context, and the faults 9 to 13.
+-- Document 01, "Labels": labels, the context, and the faults 9 to 13. Document 02, wish 2: a sum as an index.
 -- pc and rc are Bools: true is secret. All faults are listed, in the words' order; the answer is the least (Faults).
-use Prim.Native.Nat.{ℕ, _+_}
+use Prim.Native.Nat.{ℕ, _+_, _-_}
 use mathlib.Core.Bool.{Bool, true, false, _&&_, _||_, not}
 use mathlib.Core.List.{List, [], _∷_, _++_, flatMap}
 use lib.Dec.{ltb, leb, eqb}
 use lib.ListN.{getD, set, replicate}
 use Rattle.definitions.specs.Choice.{pick}
 use Rattle.definitions.specs.declared.Fault.{Fault}
-use Rattle.definitions.specs.Operators.{leftPublic, rightPublic}
+use Rattle.definitions.specs.declared.ConstantLoop.{ConstantLoop}
+use Rattle.definitions.specs.Operators.{leftPublic, rightPublic, adds}
 use Rattle.definitions.specs.Image.{Expression, constant, boolean, variable, cell, unary, binary, select, placeOf}
 use Rattle.definitions.specs.Image.{Statement, assign, store, conditional, loop, return, call, Block, done}
 use Rattle.definitions.specs.Image.{sequence, Procedure, Image, guarded, procedureAt, arraySecret, arrayLength}
@@ -62,23 +63,48 @@ module _ (types arrays : List ℕ) where
     rcAfterBlock pc rc done = rc
     rcAfterBlock pc rc (sequence p s b) = rcAfterBlock pc (rcAfter pc rc s) b
 
--- Of each variable, the upper bound of the enclosing for over it with constant bounds; else more than any length.
-abbrev pub unbounded : ℕ
-unbounded = 0xFFFFFFFF
+-- a for with constant bounds: the number of its passes, and its upper bound
+abbrev pub constantLoop : ℕ → ℕ → ConstantLoop
+constantLoop p u = record { passes = p; upper = u }
 
--- the bounds inside the block of a for over x
-abbrev pub boundsInside : List ℕ → ℕ → Expression → Expression → List ℕ
-boundsInside bounds x f t = set bounds x (pick (isConstant f && isConstant t) (constantValue t) unbounded)
+-- Of each variable, the enclosing for over it with constant bounds; where there is none, more than any length.
+abbrev pub unbounded : ConstantLoop
+unbounded = constantLoop 0xFFFFFFFF 0xFFFFFFFF
+
+-- "a for passes from up to, not including, to"
+abbrev pub loopOf : Expression → Expression → ConstantLoop
+loopOf f t = pick (isConstant f && isConstant t)
+    (constantLoop (constantValue t - constantValue f) (constantValue t)) unbounded
+
+-- the fors around the variables inside the block of a for over x
+abbrev pub boundsInside : List ConstantLoop → ℕ → Expression → Expression → List ConstantLoop
+boundsInside bounds x f t = set bounds x (loopOf f t)
+
+-- Wish 2: "bounded if the loop has no pass, or if the upper bound minus 1 plus the constant is below the length, in
+-- whole numbers". A for with a pass has an upper bound of 1 or more, so that this plus the constant is at most the length.
+abbrev pub sumBelow : ConstantLoop → ℕ → ℕ → Bool
+sumBelow for c size = eqb (for .passes) 0 || leb (for .upper + c) size
+
+-- "the variable of an enclosing constant-bound loop and a constant"
+unfoldable pub boundedSum : List ConstantLoop → ℕ → Expression → Expression → Bool
+boundedSum bounds size (variable p x) c = isConstant c && sumBelow (getD bounds x unbounded) (constantValue c) size
+boundedSum bounds size (constant p v) c = false
+boundedSum bounds size (boolean p v) c = false
+boundedSum bounds size (cell p a i) c = false
+boundedSum bounds size (unary p o e) c = false
+boundedSum bounds size (binary p o e f) c = false
+boundedSum bounds size (select p d e f) c = false
 
 -- "In a secret context an index is a constant below the length, or the variable of an enclosing for with constant
--- bounds whose upper bound is at most the length"
-unfoldable pub boundedIndex : List ℕ → ℕ → Expression → Bool
+-- bounds whose upper bound is at most the length". By wish 2 it "may also be operator 0 over the variable of an enclosing
+-- constant-bound loop and a constant, in either order".
+unfoldable pub boundedIndex : List ConstantLoop → ℕ → Expression → Bool
 boundedIndex bounds size (constant p v) = ltb v size
 boundedIndex bounds size (boolean p v) = false
-boundedIndex bounds size (variable p x) = leb (getD bounds x unbounded) size
+boundedIndex bounds size (variable p x) = leb (getD bounds x unbounded .upper) size
 boundedIndex bounds size (cell p a i) = false
 boundedIndex bounds size (unary p o e) = false
-boundedIndex bounds size (binary p o e f) = false
+boundedIndex bounds size (binary p o e f) = adds o && (boundedSum bounds size e f || boundedSum bounds size f e)
 boundedIndex bounds size (select p c e f) = false
 
 module _ (types arrays : List ℕ) where
@@ -87,7 +113,7 @@ module _ (types arrays : List ℕ) where
   secretFault e = faultIf (secretIn types arrays e) 10 (placeOf e)
 
   -- "Indices .. are public", and bounded in a secret context: "11 [operand] unbounded"
-  abbrev pub indexFaults : List ℕ → Bool → ℕ → Expression → List Fault
+  abbrev pub indexFaults : List ConstantLoop → Bool → ℕ → Expression → List Fault
   indexFaults bounds context a i =
       secretFault i ++ faultIf (context && not (boundedIndex bounds (arrayLength (getD arrays a 0)) i)) 11 (placeOf i)
 
@@ -97,7 +123,7 @@ module _ (types arrays : List ℕ) where
       ++ (faultIf (rightPublic o && secretIn types arrays f) 10 (placeOf f)
       ++ faultIf (context && (leftPublic o && eqb (constantValue f) 0)) 11 (placeOf f))
 
-  module _ (bounds : List ℕ) (context : Bool) where
+  module _ (bounds : List ConstantLoop) (context : Bool) where
     unfoldable pub labelFaults : Expression → List Fault
     labelFaults (constant p v) = []
     labelFaults (boolean p v) = []
@@ -125,7 +151,7 @@ module _ (form : ℕ) (ps : List Procedure) (arrays types : List ℕ) (result : 
   -- or rc is." "a for's bounds use the rc before it", "a for's body is checked with the rc it ends with when begun from
   -- the rc before it".
   unfoldable mutual
-    pub statementLabelFaults : List ℕ → Bool → Bool → ℕ → Statement → List Fault
+    pub statementLabelFaults : List ConstantLoop → Bool → Bool → ℕ → Statement → List Fault
     statementLabelFaults bounds pc rc p (assign x e) =
         faultIf ((secretIn types arrays e || (pc || rc)) && not (typeSecret (getD types x 0))) 9 p
         ++ labelFaults types arrays bounds (pc || rc) e
@@ -148,12 +174,12 @@ module _ (form : ℕ) (ps : List Procedure) (arrays types : List ℕ) (result : 
         ++ (faultIf ((pc || rc) && not (guarded (procedureAt ps f))) 12 p
         ++ argumentLabelFaults types arrays bounds (pc || rc) (procedureAt ps f .types) 0 es)
 
-    pub blockLabelFaults : List ℕ → Bool → Bool → Block → List Fault
+    pub blockLabelFaults : List ConstantLoop → Bool → Bool → Block → List Fault
     blockLabelFaults bounds pc rc done = []
     blockLabelFaults bounds pc rc (sequence p s b) =
         statementLabelFaults bounds pc rc p s ++ blockLabelFaults bounds pc (rcAfter types arrays pc rc s) b
 
--- "pc is secret in a guarded body". A bound for each number that a variable can have: at most 255 of them.
+-- "pc is secret in a guarded body". A for, or none, for each number that a variable can have: at most 255 of them.
 unfoldable pub procedureLabelFaults : Image → Procedure → List Fault
 procedureLabelFaults image me =
     blockLabelFaults (image .form) (image .procedures) (image .arrays) (me .types) (me .result)

@@ -56,6 +56,10 @@ leftPublic op = eqb (operator op .publics) both
 abbrev pub rightPublic : ℕ → Bool
 rightPublic op = leb right (operator op .publics)
 
+-- "0 add": the operator that adds
+abbrev pub adds : ℕ → Bool
+adds op = eqb op 0
+
 -- "9 quotient, 10 remainder": the operators that divide
 abbrev pub divides : ℕ → Bool
 divides op = eqb op 9 || eqb op 10

@@ -12,6 +12,12 @@ pub struct Fault {
     pub place: usize,
 }
 
+// A for with constant bounds: the number of its passes, and its upper bound, which its variable stays below.
+pub struct ConstantLoop {
+    pub passes: u32,
+    pub upper: u32,
+}
+
 // The compiler's answer: the number of words it wrote, or document 01's number and place.
 pub enum Compiled {
     Written(usize),

@@ -29,6 +29,6 @@ module _ (l : ℕ) (params : List ℕ) (me : ℕ) (image : List ℕ) (at : ℕ) 
   call-reads = rw hf (read-call l params me image at t _ refl k)
 
 -- what a for puts aside of its variable is put back behind its block
-pub put-back : (xs before inner after : List ℕ) (i v old : ℕ) → old ≡ getD xs i 0 → before ≡ set xs i v → inner ≡ before → after ≡ set inner i old
+pub put-back : {A : Type 0} (d : A) (xs before inner after : List A) (i : ℕ) (v old : A) → old ≡ getD xs i d → before ≡ set xs i v → inner ≡ before → after ≡ set inner i old
     → after ≡ xs
-put-back xs before inner after i v old g h e j = rw (j, e, h, g, set-set) (set-getD xs i 0)
+put-back d xs before inner after i v old g h e j = rw (j, e, h, g, set-set) (set-getD xs i d)

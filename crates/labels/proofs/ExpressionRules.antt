@@ -5,6 +5,7 @@ use mathlib.Core.List.{List}
 use mathlib.Core.Path.{_≡_, refl, ap}
 use lib.ListN.{getD}
 use Rattle.definitions.specs.declared.Fault.{Fault}
+use Rattle.definitions.specs.declared.ConstantLoop.{ConstantLoop}
 use Rattle.definitions.specs.Operators.{operator}
 use Rattle.definitions.specs.Image.{kindOf, payloadOf, typeSecret, arraySecret, Expression, cell, unary, binary, select}
 use Rattle.definitions.specs.Reading.{Parse, got, refused, readExpression}
@@ -17,11 +18,11 @@ use Rattle.laws.specs.ExpressionInversion.{open-constant, open-raw, open-boolea
 use Rattle.laws.specs.ExpressionInversion.{open-binary, open-select}
 use Rattle.image_words.specs.Read.{ExpressionRead, PairRead}
 use Rattle.image_words.specs.Parts.{told, read-values}
-use Rattle.labels.specs.Operand.{operand-words}
+use Rattle.labels.specs.Operand.{operand-words, index-words}
 use Rattle.labels.specs.Walk.{label, labelled, labelledTwo, indexNoted, operatorNoted}
 use Rattle.labels.specs.declared.Labelled.{Labelled}
 
-module _ (types arrays bounds : List ℕ) (context : Bool) (best : Fault) where
+module _ (types arrays : List ℕ) (bounds : List ConstantLoop) (context : Bool) (best : Fault) where
   pub labelled-next : (x : Parse Expression) (r : Labelled) → r ≡ labelled types arrays bounds context best x → r .next ≡ endOf x
   unfolding labelled endOf
   labelled-next (got e n) r h = ap (λ (z : Labelled). z .next) h
@@ -77,7 +78,7 @@ module _ (types arrays bounds : List ℕ) (context : Bool) (best : Fault) where
               → readExpression l image at ≡ got (cell at (payloadOf (getD image at 0)) i) n
               → label (s || x .secret) (x .next) judged ≡ labelled types arrays bounds context best (readExpression l image at)
           go i n q u =
-              rw (u, j, hx, q, a, operand-words (l - 1) image (at + 1) i n q .2 bounds _, place-of (l - 1) image (at + 1) i n q, hp, least-append, least-append)
+              rw (u, j, hx, q, a, index-words (l - 1) image (at + 1) i n q bounds _, place-of (l - 1) image (at + 1) i n q, hp, least-append, least-append)
 
       pub binary-labelled : (y : Labelled) (publics : ℕ) (judged : Fault) → kindOf (getD image at 0) ≡ 13
           → y ≡ labelled types arrays bounds context (x .best) (readExpression (l - 1) image (x .next)) → publics ≡ operator p .publics
@@ -90,7 +91,7 @@ module _ (types arrays bounds : List ℕ) (context : Bool) (best : Fault) where
               → readExpression l image at ≡ got (binary at (payloadOf (getD image at 0)) e f) m
               → label (x .secret || y .secret) (y .next) judged ≡ labelled types arrays bounds context best (readExpression l image at)
           go e n f m q r u =
-              rw (u, j, hy, hx, q, r, ho, hp, operand-words (l - 1) image n f m r .1, place-of (l - 1) image (at + 1) e n q, place-of (l - 1) image n f m r)
+              rw (u, j, hy, hx, q, r, ho, hp, operand-words (l - 1) image n f m r .values, place-of (l - 1) image (at + 1) e n q, place-of (l - 1) image n f m r)
               (simp least-append)
 
     module _ (k : kindOf (getD image at 0) ≡ 14) (x : Labelled) (hx : x ≡ labelled types arrays bounds context best (readExpression (l - 1) image (at + 1))) where

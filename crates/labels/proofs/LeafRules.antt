@@ -6,6 +6,7 @@ use mathlib.Core.List.{List, _∷_}
 use mathlib.Core.Path.{_≡_, sym, ap, _∙_}
 use lib.ListN.{getD}
 use Rattle.definitions.specs.declared.Fault.{Fault}
+use Rattle.definitions.specs.declared.ConstantLoop.{ConstantLoop}
 use Rattle.definitions.specs.Image.{opOf, targetOf, calledOf, resultOf, typeSecret, arraySecret, Expression, assign, store}
 use Rattle.definitions.specs.Image.{return, call, Procedure, procedureAt, guarded}
 use Rattle.definitions.specs.Reading.{got, readExpression, readArguments, readStatement}
@@ -19,7 +20,7 @@ use Rattle.image_words.specs.Read.{argumentsAt}
 use Rattle.image_words.specs.StatementParts.{no-argument, first-argument}
 use Rattle.image_words.specs.Rest.{arguments-left}
 use Rattle.labels.specs.Late.{least-late}
-use Rattle.labels.specs.Operand.{operand-words}
+use Rattle.labels.specs.Operand.{index-words}
 use Rattle.labels.specs.Walk.{ending, labelled, indexNoted, arguedAll}
 use Rattle.labels.specs.Blocks.{walk, walked}
 use Rattle.labels.specs.declared.Scope.{Scope}
@@ -29,7 +30,7 @@ use Rattle.labels.specs.declared.Walked.{Walked}
 use Rattle.labels.proofs.ExpressionRules.{labelled-next}
 
 -- the arguments of a call that are left
-module _ (types arrays bounds : List ℕ) (context : Bool) (callee : List ℕ) (l : ℕ) (image : List ℕ) (n at j : ℕ) (best : Fault) where
+module _ (types arrays : List ℕ) (bounds : List ConstantLoop) (context : Bool) (callee : List ℕ) (l : ℕ) (image : List ℕ) (n at j : ℕ) (best : Fault) where
   module _ (X : Ended) (d : arguedAll types arrays bounds context callee j best (argumentsAt (n - j) l image at) ≡ X) where
     pub arguments-done : n ≤ j → ending at best ≡ X
     unfolding arguedAll argumentLabelFaults least
@@ -62,7 +63,7 @@ late : (b : Fault) (c : Bool) (p : ℕ) (fs : List Fault) → least (least b fs)
 late = least-late 9 (omega arith)
 
 -- the statements
-module _ (ps : List Procedure) (arrays types bounds : List ℕ) (scope : Scope) (pc rc : Bool) (best : Fault)
+module _ (ps : List Procedure) (arrays types : List ℕ) (bounds : List ConstantLoop) (scope : Scope) (pc rc : Bool) (best : Fault)
     (l : ℕ) (params : List ℕ) (me : ℕ) (image : List ℕ) (at : ℕ) (t : ok (readStatement l params me image at) ≡ true) where
   abbrev Returned : Walked → Type 0
   Returned w = w ≡ walked ps arrays types bounds scope pc rc at best (readStatement l params me image at)
@@ -97,7 +98,7 @@ module _ (ps : List Procedure) (arrays types bounds : List ℕ) (scope : Scope) 
       go : (x : Expression) (n : ℕ) (y : Expression) (m : ℕ) → readExpression (l - 1) image (at + 1) ≡ got x n → readExpression (l - 1) image n ≡ got y m
           → readStatement l params me image at ≡ got (store (targetOf (getD image at 0)) x y) m → Returned (walk rc (e .next) judged)
       go x n y m q s u =
-          rw (u, j, he, hx, hi, q, s, ht, ha, operand-words (l - 1) image (at + 1) x n q .2 bounds _, place-of (l - 1) image (at + 1) x n q)
+          rw (u, j, he, hx, hi, q, s, ht, ha, index-words (l - 1) image (at + 1) x n q bounds _, place-of (l - 1) image (at + 1) x n q)
           (simp (least-append, late))
 
   pub walk-call : (f x given : ℕ) (secret target guard : Bool) (flow mode : Fault) (r : Ended) → opOf (getD image at 0) ≡ 5

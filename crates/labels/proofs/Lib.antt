@@ -1,3 +1,5 @@
+pub mod EnclosingRules
+pub mod SumRules
 pub mod OperandRules
 pub mod ExpressionRules
 pub mod LeafRules

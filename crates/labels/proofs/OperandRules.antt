@@ -1,32 +1,19 @@
 -- What each return of the functions over one operand's words gives. Assumes nothing.
-use Prim.Native.Nat.{ℕ, zero, suc, _+_, _≤_, _<_}
+use Prim.Native.Nat.{ℕ, _+_}
 use mathlib.Core.Bool.{Bool, true, false, _&&_, _||_, not}
-use mathlib.Core.List.{List, [], _∷_}
-use native.Mathlib.Omega.{arith}
-use native.Mathlib.Nat.{le-of-suc-le-suc}
-use mathlib.Core.Path.{_≡_, refl, sym, ap, _∙_}
+use mathlib.Core.List.{List}
+use mathlib.Core.Path.{_≡_}
 use borrow.Author.Tests.{ne-eqb}
 use lib.Dec.{eqb, ltb, leb}
-use lib.ListN.{length, getD, List·getD-eq-default}
+use lib.ListN.{getD}
 use Rattle.definitions.specs.declared.Fault.{Fault}
+use Rattle.definitions.specs.declared.ConstantLoop.{ConstantLoop}
 use Rattle.definitions.specs.Image.{kindOf, payloadOf, arrayLength}
 use Rattle.definitions.specs.Faults.{least, faultIf}
+use Rattle.definitions.specs.Labels.{unbounded}
 use Rattle.image_words.specs.Parts.{told, not-told}
-use Rattle.labels.specs.Operand.{constantAt, valueAt, boundedAt}
+use Rattle.labels.specs.Operand.{constantAt, valueAt, additionAt, boundedAt}
 use Rattle.labels.specs.Walk.{indexNoted, operatorNoted}
-
--- within a list the default does not count, past its end it does
-any-default : (words : List ℕ) (at d e : ℕ) → at < length words → getD words at d ≡ getD words at e
-any-default [] at d e h = absurd (omega arith)
-any-default (w ∷ ws) zero d e h = refl
-any-default (w ∷ ws) (suc at) d e h = any-default ws at d e (le-of-suc-le-suc h)
-
-module _ (bounds : List ℕ) (x i : ℕ) (e : i ≡ x) where
-  pub bound-there : i < length bounds → getD bounds i 0 ≡ getD bounds x 4294967295
-  bound-there h = any-default bounds i 0 4294967295 h ∙ ap (λ (k : ℕ). getD bounds k 4294967295) e
-
-  pub bound-none : length bounds ≤ i → 4294967295 ≡ getD bounds x 4294967295
-  bound-none h = sym (List·getD-eq-default bounds 4294967295 (omega arith))
 
 pub constant-here : (image : List ℕ) (at w k : ℕ) → w ≡ getD image at 0 → k ≡ kindOf w → eqb k 7 || eqb k 8 ≡ constantAt image at
 unfolding constantAt
@@ -45,17 +32,26 @@ module _ (image : List ℕ) (at k : ℕ) (hk : k ≡ kindOf (getD image at 0)) w
   unfolding valueAt
   value-none n7 n8 = rw (ne-eqb _ _ (not-told hk n7), ne-eqb _ _ (not-told hk n8))
 
-module _ (image : List ℕ) (at : ℕ) (bounds : List ℕ) (size : ℕ) (c : Bool) (h : c ≡ constantAt image at) where
+module _ (image : List ℕ) (at : ℕ) (bounds : List ConstantLoop) (size : ℕ) (c : Bool) (h : c ≡ constantAt image at) where
   pub bounded-constant : (v : ℕ) → c ≡ true → v ≡ valueAt image at → ltb v size ≡ boundedAt image bounds size at
   unfolding boundedAt
   bounded-constant v t e = rw (← h, t, e)
 
-  pub bounded-variable : (k p b : ℕ) → c ≡ false → k ≡ kindOf (getD image at 0) → p ≡ payloadOf (getD image at 0) → b ≡ getD bounds p 4294967295
-      → eqb k 10 && leb b size ≡ boundedAt image bounds size at
-  unfolding boundedAt
-  bounded-variable k p b t hk hp e = rw (← h, t, e, hk, hp)
+  module _ (k : ℕ) (t : c ≡ false) (hk : k ≡ kindOf (getD image at 0)) where
+    pub bounded-variable : (p : ℕ) (b : ConstantLoop) → k ≡ 10 → p ≡ payloadOf (getD image at 0) → b ≡ getD bounds p unbounded
+        → leb (b .upper) size ≡ boundedAt image bounds size at
+    unfolding boundedAt
+    bounded-variable p b n hp e = rw (← h, t, told hk n, e, hp)
 
-pub index-noted : (image arrays bounds : List ℕ) (context : Bool) (a at : ℕ) (secret : Bool) (best found r : Fault) (w size : ℕ) (bounded : Bool)
+    pub bounded-binary : (s : Bool) → k ≡ 13 → s ≡ additionAt image bounds size at → s ≡ boundedAt image bounds size at
+    unfolding boundedAt
+    bounded-binary s n e = rw (← h, t, told hk n, e)
+
+    pub bounded-other : (k ≡ 10 → ⊥) → (k ≡ 13 → ⊥) → false ≡ boundedAt image bounds size at
+    unfolding boundedAt
+    bounded-other n m = rw (← h, t, ne-eqb _ _ (not-told hk n), ne-eqb _ _ (not-told hk m))
+
+pub index-noted : (image arrays : List ℕ) (bounds : List ConstantLoop) (context : Bool) (a at : ℕ) (secret : Bool) (best found r : Fault) (w size : ℕ) (bounded : Bool)
     → found ≡ least best (faultIf secret 10 at) → w ≡ getD arrays a 0 → size ≡ arrayLength w → bounded ≡ boundedAt image bounds size at
     → r ≡ least found (faultIf (context && not bounded) 11 at) → r ≡ indexNoted image arrays bounds context a at secret best
 unfolding indexNoted

@@ -13,6 +13,7 @@ use Rattle.laws.specs.ImageIn.{imageIn, proceduresIn}
 use Rattle.tables.specs.Table.{placeIn, bodyIn, arraysIn, paramsIn}
 use Rattle.tables.specs.Looking.{Listed, procedureIn, known-arrays}
 use Rattle.faults.specs.Bodies.{types-part, form-known, body-reads}
+use Rattle.labels.specs.Enclosing.{boundsIn, bounds-none}
 use Rattle.labels.specs.Blocks.{walkedBlock}
 use Rattle.labels.specs.declared.Walked.{Walked}
 
@@ -20,7 +21,7 @@ module _ (image table : List ℕ) (me : ℕ) (k : Listed image table me) (p b : 
     (w form level : ℕ) (hw : w ≡ getD image 0 0) (hf : form ≡ formOf w) (hl : level ≡ largestLevel form) where
   pub procedure-labelled : (result : ℕ) (pc : Bool) (best : Fault) (s : Walked)
       → result ≡ procedureIn image me .result → pc ≡ guarded (procedureIn image me)
-      → s ≡ walkedBlock (proceduresIn image) (arraysIn table) (take (b - (p + 1 + 1)) (drop (p + 1 + 1) image)) (replicate 256 4294967295)
+      → s ≡ walkedBlock (proceduresIn image) (arraysIn table) (take (b - (p + 1 + 1)) (drop (p + 1 + 1) image)) (boundsIn (replicate 512 4294967295))
       (record { me = me; form = form; result = result }) pc false best (readBlock level (paramsIn table) me image b)
       → s .best ≡ least best (procedureLabelFaults (imageIn image) (procedureIn image me))
   unfolding walkedBlock procedureLabelFaults
@@ -37,6 +38,7 @@ module _ (image table : List ℕ) (me : ℕ) (k : Listed image table me) (p b : 
             form-known image table me k b hb w form level hw hf hl,
             hr,
             hg,
+            bounds-none 256 512 refl,
           )
 
 -- all procedures are left

@@ -7,6 +7,7 @@ use mathlib.Core.Path.{_≡_, refl, sym, ap, _∙_}
 use lib.Dec.{eqb}
 use lib.ListN.{getD, set}
 use Rattle.definitions.specs.declared.Fault.{Fault}
+use Rattle.definitions.specs.declared.ConstantLoop.{ConstantLoop}
 use Rattle.definitions.specs.Image.{opOf, targetOf, Expression, Statement, conditional, loop, Block, sequence, Procedure}
 use Rattle.definitions.specs.Reading.{Parse, got, refused, readExpression, readStatement, readBlock}
 use Rattle.definitions.specs.Faults.{least, faultIf}
@@ -28,7 +29,7 @@ use Rattle.labels.specs.declared.Limited.{Limited}
 use Rattle.labels.specs.declared.Walked.{Walked}
 use Rattle.labels.proofs.ExpressionRules.{labelled-next}
 
-module _ (ps : List Procedure) (arrays types bounds : List ℕ) (scope : Scope) (pc rc : Bool) (best : Fault) where
+module _ (ps : List Procedure) (arrays types : List ℕ) (bounds : List ConstantLoop) (scope : Scope) (pc rc : Bool) (best : Fault) where
   walked-next : (at : ℕ) (x : Parse Statement) (r : Walked) → r ≡ walked ps arrays types bounds scope pc rc at best x → r .next ≡ endOf x
   unfolding walked endOf
   walked-next at (got s n) r h = ap (λ (z : Walked). z .next) h
@@ -41,7 +42,7 @@ module _ (ps : List Procedure) (arrays types bounds : List ℕ) (scope : Scope) 
 
 -- ---- the blocks of an if stand behind its condition, that of a for behind its bounds
 
-module _ (types arrays bounds : List ℕ) (context : Bool) (best : Fault) (l : ℕ) (params : List ℕ) (me : ℕ) (image : List ℕ) (at : ℕ)
+module _ (types arrays : List ℕ) (bounds : List ConstantLoop) (context : Bool) (best : Fault) (l : ℕ) (params : List ℕ) (me : ℕ) (image : List ℕ) (at : ℕ)
     (t : ok (readStatement l params me image at) ≡ true) where
   module _ (k : opOf (getD image at 0) ≡ 2) (c : Labelled) (h : c ≡ labelled types arrays bounds context best (readExpression (l - 1) image (at + 1))) where
     pub then-fine : BlockRead (l - 1) params me image (c .next)
@@ -73,12 +74,12 @@ module _ (types arrays bounds : List ℕ) (context : Bool) (best : Fault) (l : �
 late : (b : Fault) (c : Bool) (p : ℕ) (fs : List Fault) → least (least b fs) (faultIf c 13 p) ≡ least (least b (faultIf c 13 p)) fs
 late = least-late 13 (omega arith)
 
-module _ (ps : List Procedure) (arrays types bounds : List ℕ) (scope : Scope) (pc rc : Bool) (best : Fault)
+module _ (ps : List Procedure) (arrays types : List ℕ) (bounds : List ConstantLoop) (scope : Scope) (pc rc : Bool) (best : Fault)
     (l : ℕ) (params : List ℕ) (me : ℕ) (image : List ℕ) (at : ℕ) (t : ok (readStatement l params me image at) ≡ true) where
   abbrev Returned : Walked → Type 0
   Returned w = w ≡ walked ps arrays types bounds scope pc rc at best (readStatement l params me image at)
 
-  pub walk-if : (c : Labelled) (judged : Fault) (a b : Walked) (after : List ℕ) → opOf (getD image at 0) ≡ 2
+  pub walk-if : (c : Labelled) (judged : Fault) (a b : Walked) (after : List ConstantLoop) → opOf (getD image at 0) ≡ 2
       → c ≡ labelled types arrays bounds (pc || rc) best (readExpression (l - 1) image (at + 1))
       → judged ≡ least (c .best) (faultIf (eqb (scope .form) 1 && c .secret) 13 at)
       → a ≡ walkedBlock ps arrays types bounds scope (pc || c .secret) rc judged (readBlock (l - 1) params me image (c .next)) → after ≡ bounds
@@ -92,23 +93,23 @@ module _ (ps : List Procedure) (arrays types bounds : List ℕ) (scope : Scope) 
           → readStatement l params me image at ≡ got (conditional d x y) o → Returned (walk (a .rc || b .rc) (b .next) (b .best))
       go d n x m y o q s u w = rw (w, f, z, g, j, h, q, s, u) (simp (least-append, late))
 
-  pub walk-for : (x i : ℕ) (v : Limited) (after : Passed) (inside : List ℕ) (b : Walked) → opOf (getD image at 0) ≡ 3 → x ≡ targetOf (getD image at 0)
+  pub walk-for : (x : ℕ) (v : Limited) (after : Passed) (inside : List ConstantLoop) (b : Walked) → opOf (getD image at 0) ≡ 3 → x ≡ targetOf (getD image at 0)
       → v ≡ limited types arrays bounds (pc || rc) best (readExpression (l - 1) image (at + 1))
       (readExpression (l - 1) image (endOf (readExpression (l - 1) image (at + 1))))
-      → after ≡ passedBlock types arrays pc rc (readBlock (l - 1) params me image (v .next)) → i ≡ x → inside ≡ set bounds i (v .inside)
+      → after ≡ passedBlock types arrays pc rc (readBlock (l - 1) params me image (v .next)) → inside ≡ set bounds x (v .inside)
       → b ≡ walkedBlock ps arrays types inside scope pc (after .rc) (v .best) (readBlock (l - 1) params me image (v .next))
       → Returned (walk (after .rc) (b .next) (b .best))
   unfolding limited passedBlock walked walkedBlock rcAfter statementLabelFaults
-  walk-for x i v after inside b k hx h g hi y j = let (e, n, f, m, d, o, q, s, u, w) = open-for l params me image at t k in go e n f m d o q s u w
+  walk-for x v after inside b k hx h g y j = let (e, n, f, m, d, o, q, s, u, w) = open-for l params me image at t k in go e n f m d o q s u w
     where
       go : (e : Expression) (n : ℕ) (f : Expression) (m : ℕ) (d : Block) (o : ℕ) → readExpression (l - 1) image (at + 1) ≡ got e n
           → readExpression (l - 1) image n ≡ got f m → readBlock (l - 1) params me image m ≡ got d o
           → readStatement l params me image at ≡ got (loop (targetOf (getD image at 0)) e f d) o → Returned (walk (after .rc) (b .next) (b .best))
-      go e n f m d o q s u w = rw (w, j, y, g, h, end-of _ e n q, q, s, u, hi, hx) (simp least-append)
+      go e n f m d o q s u w = rw (w, j, y, g, h, end-of _ e n q, q, s, u, hx) (simp least-append)
 
 -- ---- the statements of a block that are left
 
-module _ (ps : List Procedure) (arrays types bounds : List ℕ) (scope : Scope) (pc rc : Bool) (best : Fault)
+module _ (ps : List Procedure) (arrays types : List ℕ) (bounds : List ConstantLoop) (scope : Scope) (pc rc : Bool) (best : Fault)
     (l : ℕ) (params : List ℕ) (me : ℕ) (image : List ℕ) (n at j : ℕ) where
   module _ (X : Walked) (d : walkedBlock ps arrays types bounds scope pc rc best (statementsAt (n - j) l params me image at) ≡ X) where
     pub block-done : n ≤ j → walk rc at best ≡ X
@@ -118,7 +119,7 @@ module _ (ps : List Procedure) (arrays types bounds : List ℕ) (scope : Scope) 
         sym (ap (λ k. walkedBlock ps arrays types bounds scope pc rc best k)
         (ap (λ k. statementsAt k l params me image at) z ∙ no-statement l params me image at)) ∙ d
 
-    pub block-more : ok (statementsAt (n - j) l params me image at) ≡ true → j < n → (s : Walked) (after : List ℕ)
+    pub block-more : ok (statementsAt (n - j) l params me image at) ≡ true → j < n → (s : Walked) (after : List ConstantLoop)
         → s ≡ walked ps arrays types bounds scope pc rc at best (readStatement l params me image at) → after ≡ bounds
         → walkedBlock ps arrays types after scope pc (s .rc) (s .best) (statementsAt (n - (j + 1)) l params me image (s .next)) ≡ X
     unfolding walked walkedBlock rcAfterBlock blockLabelFaults

@@ -3,6 +3,7 @@ use Prim.Native.Nat.{ℕ}
 use mathlib.Core.Bool.{Bool}
 use mathlib.Core.List.{List}
 use Rattle.definitions.specs.declared.Fault.{Fault}
+use Rattle.definitions.specs.declared.ConstantLoop.{ConstantLoop}
 use Rattle.definitions.specs.Image.{Statement, Block, Procedure}
 use Rattle.definitions.specs.Reading.{Parse, got, refused}
 use Rattle.definitions.specs.Faults.{least}
@@ -14,7 +15,7 @@ abbrev pub walk : Bool → ℕ → Fault → Walked
 walk r n b = record { rc = r; next = n; best = b }
 
 -- over the image's procedures and array words, the type words of the variables, the bounds, the procedure whose body it is, pc and rc
-module _ (ps : List Procedure) (arrays types bounds : List ℕ) (scope : Scope) (pc rc : Bool) where
+module _ (ps : List Procedure) (arrays types : List ℕ) (bounds : List ConstantLoop) (scope : Scope) (pc rc : Bool) where
   unfoldable pub walked : ℕ → Fault → Parse Statement → Walked
   walked at best (got s n) =
       walk (rcAfter types arrays pc rc s) n

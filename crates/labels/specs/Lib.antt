@@ -1,4 +1,5 @@
 pub mod Late
+pub mod Enclosing
 pub mod Operand
 pub mod Walk
 pub mod Blocks

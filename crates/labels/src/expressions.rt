@@ -1,4 +1,5 @@
 // The label of an expression, and the lowest of its faults.
+use super::BOUNDS;
 use super::Labelled;
 use super::operands::bounded_at;
 use super::operands::value_at;
@@ -18,13 +19,14 @@ ghost use Rattle.definitions.specs.Reading.{readExpression};
 ghost use Rattle.laws.specs.Parses.{endOf};
 ghost use Rattle.image_words.specs.Read.{ExpressionRead, PairRead};
 ghost use Rattle.tables.specs.Table.{arraysIn};
+ghost use Rattle.labels.specs.Enclosing.{boundsIn};
 ghost use Rattle.labels.specs.Walk.{labelled, labelledTwo, indexNoted, operatorNoted};
 
 // The faults of an index at a place: it has to be public, and bounded by the array's length in a secret context.
 pub fn note_index(
     image: &[u32],
     table: &[u32; SIZE],
-    bounds: &[u32; 256],
+    bounds: &[u32; BOUNDS],
     context: bool,
     a: u32,
     at: usize,
@@ -32,7 +34,7 @@ pub fn note_index(
     best: Fault,
 ) -> Fault
     requires { ⌜ at < length (now image) ⌝ }
-    ensures { λ r. ⌜ r ≡ indexNoted (now (image .entry)) (arraysIn (now (table .entry))) (now (bounds .entry)) context a at secret best ⌝ }
+    ensures { λ r. ⌜ r ≡ indexNoted (now (image .entry)) (arraysIn (now (table .entry))) (boundsIn (now (bounds .entry))) context a at secret best ⌝ }
 {
     let found = faults::note(best, secret, 10, at);
     let size = array_length(tables::array(table, a));
@@ -66,14 +68,14 @@ pub fn label_expression(
     image: &[u32],
     table: &[u32; SIZE],
     types: &[u32],
-    bounds: &[u32; 256],
+    bounds: &[u32; BOUNDS],
     context: bool,
     at: usize,
     level: u32,
     best: Fault,
 ) -> Labelled
     requires { ⌜ ExpressionRead level (now image) at ⌝ }
-    ensures { λ r. ⌜ r ≡ labelled (now (types .entry)) (arraysIn (now (table .entry))) (now (bounds .entry)) context best (readExpression level (now (image .entry)) at) ⌝ }
+    ensures { λ r. ⌜ r ≡ labelled (now (types .entry)) (arraysIn (now (table .entry))) (boundsIn (now (bounds .entry))) context best (readExpression level (now (image .entry)) at) ⌝ }
 {
     let w = image[at];
     let k = kind(w);
@@ -123,14 +125,14 @@ fn label_cell(
     image: &[u32],
     table: &[u32; SIZE],
     types: &[u32],
-    bounds: &[u32; 256],
+    bounds: &[u32; BOUNDS],
     context: bool,
     at: usize,
     level: u32,
     best: Fault,
 ) -> Labelled
     requires { ⌜ ExpressionRead level (now image) at × (kindOf (getD (now image) at 0) ≡ 11) ⌝ }
-    ensures { λ r. ⌜ r ≡ labelled (now (types .entry)) (arraysIn (now (table .entry))) (now (bounds .entry)) context best (readExpression level (now (image .entry)) at) ⌝ }
+    ensures { λ r. ⌜ r ≡ labelled (now (types .entry)) (arraysIn (now (table .entry))) (boundsIn (now (bounds .entry))) context best (readExpression level (now (image .entry)) at) ⌝ }
 {
     let a = payload(image[at]);
     let inner = level - 1;
@@ -148,14 +150,14 @@ fn label_binary(
     image: &[u32],
     table: &[u32; SIZE],
     types: &[u32],
-    bounds: &[u32; 256],
+    bounds: &[u32; BOUNDS],
     context: bool,
     at: usize,
     level: u32,
     best: Fault,
 ) -> Labelled
     requires { ⌜ ExpressionRead level (now image) at × (kindOf (getD (now image) at 0) ≡ 13) ⌝ }
-    ensures { λ r. ⌜ r ≡ labelled (now (types .entry)) (arraysIn (now (table .entry))) (now (bounds .entry)) context best (readExpression level (now (image .entry)) at) ⌝ }
+    ensures { λ r. ⌜ r ≡ labelled (now (types .entry)) (arraysIn (now (table .entry))) (boundsIn (now (bounds .entry))) context best (readExpression level (now (image .entry)) at) ⌝ }
 {
     let inner = level - 1;
     let publics = operators::public_operands(payload(image[at]));
@@ -183,14 +185,14 @@ fn label_select(
     image: &[u32],
     table: &[u32; SIZE],
     types: &[u32],
-    bounds: &[u32; 256],
+    bounds: &[u32; BOUNDS],
     context: bool,
     at: usize,
     level: u32,
     best: Fault,
 ) -> Labelled
     requires { ⌜ ExpressionRead level (now image) at × (kindOf (getD (now image) at 0) ≡ 14) ⌝ }
-    ensures { λ r. ⌜ r ≡ labelled (now (types .entry)) (arraysIn (now (table .entry))) (now (bounds .entry)) context best (readExpression level (now (image .entry)) at) ⌝ }
+    ensures { λ r. ⌜ r ≡ labelled (now (types .entry)) (arraysIn (now (table .entry))) (boundsIn (now (bounds .entry))) context best (readExpression level (now (image .entry)) at) ⌝ }
 {
     let inner = level - 1;
     let c = label_expression(image, table, types, bounds, context, at + 1, inner, best);
@@ -208,14 +210,14 @@ fn label_two(
     image: &[u32],
     table: &[u32; SIZE],
     types: &[u32],
-    bounds: &[u32; 256],
+    bounds: &[u32; BOUNDS],
     context: bool,
     at: usize,
     level: u32,
     best: Fault,
 ) -> Labelled
     requires { ⌜ PairRead level (now image) at ⌝ }
-    ensures { λ r. ⌜ r ≡ labelledTwo (now (types .entry)) (arraysIn (now (table .entry))) (now (bounds .entry)) context best (readExpression level (now (image .entry)) at)
+    ensures { λ r. ⌜ r ≡ labelledTwo (now (types .entry)) (arraysIn (now (table .entry))) (boundsIn (now (bounds .entry))) context best (readExpression level (now (image .entry)) at)
         (readExpression level (now (image .entry)) (endOf (readExpression level (now (image .entry)) at))) ⌝ }
 {
     let e = label_expression(image, table, types, bounds, context, at, level, best);

@@ -1,4 +1,5 @@
 // The statements that hold no block: assign, store, return, call. Each takes the statement's word at `at`.
+use super::BOUNDS;
 use super::Ended;
 use super::Scope;
 use super::Walked;
@@ -26,6 +27,7 @@ ghost use Rattle.laws.specs.ImageIn.{proceduresIn};
 ghost use Rattle.image_words.specs.Read.{StatementRead, argumentsAt};
 ghost use Rattle.tables.specs.Table.{arraysIn, paramsIn};
 ghost use Rattle.tables.specs.Looking.{Listed, procedureIn};
+ghost use Rattle.labels.specs.Enclosing.{boundsIn};
 ghost use Rattle.labels.specs.Walk.{arguedAll};
 ghost use Rattle.labels.specs.Blocks.{walked};
 
@@ -33,7 +35,7 @@ pub fn label_assign(
     image: &[u32],
     table: &[u32; SIZE],
     types: &[u32],
-    bounds: &[u32; 256],
+    bounds: &[u32; BOUNDS],
     scope: Scope,
     context: Context,
     at: usize,
@@ -41,7 +43,7 @@ pub fn label_assign(
     best: Fault,
 ) -> Walked
     requires { ⌜ StatementRead level (paramsIn (now table)) (scope .me) (now image) at × (opOf (getD (now image) at 0) ≡ 0) ⌝ }
-    ensures { λ r. ⌜ r ≡ walked (proceduresIn (now (image .entry))) (arraysIn (now (table .entry))) (now (types .entry)) (now (bounds .entry)) scope (context .pc) (context .rc) at best
+    ensures { λ r. ⌜ r ≡ walked (proceduresIn (now (image .entry))) (arraysIn (now (table .entry))) (now (types .entry)) (boundsIn (now (bounds .entry))) scope (context .pc) (context .rc) at best
         (readStatement level (paramsIn (now (table .entry))) (scope .me) (now (image .entry)) at) ⌝ }
 {
     let secret = context.pc | context.rc;
@@ -59,7 +61,7 @@ pub fn label_store(
     image: &[u32],
     table: &[u32; SIZE],
     types: &[u32],
-    bounds: &[u32; 256],
+    bounds: &[u32; BOUNDS],
     scope: Scope,
     context: Context,
     at: usize,
@@ -67,7 +69,7 @@ pub fn label_store(
     best: Fault,
 ) -> Walked
     requires { ⌜ StatementRead level (paramsIn (now table)) (scope .me) (now image) at × (opOf (getD (now image) at 0) ≡ 1) ⌝ }
-    ensures { λ r. ⌜ r ≡ walked (proceduresIn (now (image .entry))) (arraysIn (now (table .entry))) (now (types .entry)) (now (bounds .entry)) scope (context .pc) (context .rc) at best
+    ensures { λ r. ⌜ r ≡ walked (proceduresIn (now (image .entry))) (arraysIn (now (table .entry))) (now (types .entry)) (boundsIn (now (bounds .entry))) scope (context .pc) (context .rc) at best
         (readStatement level (paramsIn (now (table .entry))) (scope .me) (now (image .entry)) at) ⌝ }
 {
     let secret = context.pc | context.rc;
@@ -89,7 +91,7 @@ pub fn label_return(
     image: &[u32],
     table: &[u32; SIZE],
     types: &[u32],
-    bounds: &[u32; 256],
+    bounds: &[u32; BOUNDS],
     scope: Scope,
     context: Context,
     at: usize,
@@ -97,7 +99,7 @@ pub fn label_return(
     best: Fault,
 ) -> Walked
     requires { ⌜ StatementRead level (paramsIn (now table)) (scope .me) (now image) at × (opOf (getD (now image) at 0) ≡ 4) ⌝ }
-    ensures { λ r. ⌜ r ≡ walked (proceduresIn (now (image .entry))) (arraysIn (now (table .entry))) (now (types .entry)) (now (bounds .entry)) scope (context .pc) (context .rc) at best
+    ensures { λ r. ⌜ r ≡ walked (proceduresIn (now (image .entry))) (arraysIn (now (table .entry))) (now (types .entry)) (boundsIn (now (bounds .entry))) scope (context .pc) (context .rc) at best
         (readStatement level (paramsIn (now (table .entry))) (scope .me) (now (image .entry)) at) ⌝ }
 {
     let secret = context.pc | context.rc;
@@ -116,7 +118,7 @@ fn label_arguments(
     image: &[u32],
     table: &[u32; SIZE],
     types: &[u32],
-    bounds: &[u32; 256],
+    bounds: &[u32; BOUNDS],
     context: bool,
     f: u32,
     at: usize,
@@ -124,7 +126,7 @@ fn label_arguments(
     best: Fault,
 ) -> Ended
     requires { ⌜ Listed (now image) (now table) f × (ok (argumentsAt (getD (paramsIn (now table)) f 0) level (now image) at) ≡ true) ⌝ }
-    ensures { λ r. ⌜ r ≡ arguedAll (now (types .entry)) (arraysIn (now (table .entry))) (now (bounds .entry)) context (procedureIn (now (image .entry)) f .types) 0 best
+    ensures { λ r. ⌜ r ≡ arguedAll (now (types .entry)) (arraysIn (now (table .entry))) (boundsIn (now (bounds .entry))) context (procedureIn (now (image .entry)) f .types) 0 best
         (argumentsAt (getD (paramsIn (now (table .entry))) f 0) level (now (image .entry)) at) ⌝ }
 {
     let count = tables::parameters(table, f);
@@ -150,7 +152,7 @@ pub fn label_call(
     image: &[u32],
     table: &[u32; SIZE],
     types: &[u32],
-    bounds: &[u32; 256],
+    bounds: &[u32; BOUNDS],
     scope: Scope,
     context: Context,
     at: usize,
@@ -158,7 +160,7 @@ pub fn label_call(
     best: Fault,
 ) -> Walked
     requires { ⌜ StatementRead level (paramsIn (now table)) (scope .me) (now image) at × (opOf (getD (now image) at 0) ≡ 5) × Listed (now image) (now table) (scope .me) ⌝ }
-    ensures { λ r. ⌜ r ≡ walked (proceduresIn (now (image .entry))) (arraysIn (now (table .entry))) (now (types .entry)) (now (bounds .entry)) scope (context .pc) (context .rc) at best
+    ensures { λ r. ⌜ r ≡ walked (proceduresIn (now (image .entry))) (arraysIn (now (table .entry))) (now (types .entry)) (boundsIn (now (bounds .entry))) scope (context .pc) (context .rc) at best
         (readStatement level (paramsIn (now (table .entry))) (scope .me) (now (image .entry)) at) ⌝ }
 {
     let w = image[at];

@@ -1,16 +1,22 @@
 // The checker's third group: flow (9), secret where public (10), unbounded (11), calls (12), secret branches in form 1 (13).
 // Every function walks the words with a cursor, and carries the lowest fault so far.
+use definitions::ConstantLoop;
 use definitions::Fault;
 
+mod enclosing; // the enclosing fors with constant bounds
 mod operands; // what an operand's words say
+mod sums; // a sum as an index
 mod expressions; // expressions
 mod leaves; // statements that hold no block
 mod loops; // the bounds of a for
 mod statements; // statements that hold blocks, and blocks
 pub mod procedures; // a whole image
 
-// The bound of a variable over which no for with constant bounds stands around this place.
+// Passes and upper bound of a variable over which no for with constant bounds stands around this place.
 const UNBOUNDED: u32 = 0xFFFF_FFFF;
+
+// The words for the enclosing fors: two for each number that a variable can have.
+const BOUNDS: usize = 512;
 
 // The procedure whose body is checked: its number, its image's form, its result's type word.
 pub struct Scope {
@@ -32,9 +38,9 @@ pub struct Ended {
     pub best: Fault,
 }
 
-// A for's bounds: its variable's bound in its block, the place after them, the lowest fault so far.
+// A for's bounds: the for that is around its variable in its block, the place after them, the lowest fault so far.
 pub struct Limited {
-    pub inside: u32,
+    pub inside: ConstantLoop,
     pub next: usize,
     pub best: Fault,
 }

@@ -1,19 +1,22 @@
 // The bounds of a for.
+use super::BOUNDS;
 use super::Labelled;
 use super::Limited;
 use super::UNBOUNDED;
 use super::expressions::label_expression;
 use super::operands::constant_at;
 use super::operands::value_at;
+use definitions::ConstantLoop;
 use definitions::Fault;
 use tables::SIZE;
 ghost use mathlib.Core.Path.{_≡_};
-ghost use Prim.Native.Nat.{_<_};
+ghost use Prim.Native.Nat.{_<_, _-_};
 ghost use lib.ListN.{length};
 ghost use Rattle.definitions.specs.Reading.{readExpression};
 ghost use Rattle.laws.specs.Parses.{endOf};
 ghost use Rattle.image_words.specs.Read.{ExpressionRead, PairRead};
 ghost use Rattle.tables.specs.Table.{arraysIn};
+ghost use Rattle.labels.specs.Enclosing.{boundsIn};
 ghost use Rattle.labels.specs.Operand.{insideAt};
 ghost use Rattle.labels.specs.Walk.{bounding, limited};
 
@@ -22,14 +25,14 @@ fn label_bound(
     image: &[u32],
     table: &[u32; SIZE],
     types: &[u32],
-    bounds: &[u32; 256],
+    bounds: &[u32; BOUNDS],
     context: bool,
     at: usize,
     level: u32,
     best: Fault,
 ) -> Labelled
     requires { ⌜ ExpressionRead level (now image) at ⌝ }
-    ensures { λ r. ⌜ r ≡ bounding (now (types .entry)) (arraysIn (now (table .entry))) (now (bounds .entry)) context best (readExpression level (now (image .entry)) at) ⌝ }
+    ensures { λ r. ⌜ r ≡ bounding (now (types .entry)) (arraysIn (now (table .entry))) (boundsIn (now (bounds .entry))) context best (readExpression level (now (image .entry)) at) ⌝ }
 {
     let e = label_expression(image, table, types, bounds, context, at, level, best);
     let constant = constant_at(image, at);
@@ -42,15 +45,33 @@ fn label_bound(
     }
 }
 
-// The bound that a for's variable has in its block, by the places of the for's bounds.
-fn bound_inside(image: &[u32], from: usize, to: usize) -> u32
-    requires { ⌜ to < length (now image) ⌝ }
+// "a for passes from up to, not including, to"
+fn passes(from: u32, to: u32) -> u32
+    ensures { λ r. ⌜ r ≡ to - from ⌝ }
+{
+    if from < to {
+        return to - from;
+    }
+    0
+}
+
+// The for that is around its variable in its block, by the places of its bounds.
+fn loop_inside(image: &[u32], from: usize, to: usize) -> ConstantLoop
+    requires { ⌜ (from < length (now image)) × (to < length (now image)) ⌝ }
     ensures { λ r. ⌜ r ≡ insideAt (now (image .entry)) from to ⌝ }
 {
     if constant_at(image, from) & constant_at(image, to) {
-        return value_at(image, to);
+        let upper = value_at(image, to);
+        let count = passes(value_at(image, from), upper);
+        return ConstantLoop {
+            passes: count,
+            upper,
+        };
     }
-    UNBOUNDED
+    ConstantLoop {
+        passes: UNBOUNDED,
+        upper: UNBOUNDED,
+    }
 }
 
 // Both bounds of a for.
@@ -58,20 +79,20 @@ pub fn label_bounds(
     image: &[u32],
     table: &[u32; SIZE],
     types: &[u32],
-    bounds: &[u32; 256],
+    bounds: &[u32; BOUNDS],
     context: bool,
     at: usize,
     level: u32,
     best: Fault,
 ) -> Limited
     requires { ⌜ PairRead level (now image) at ⌝ }
-    ensures { λ r. ⌜ r ≡ limited (now (types .entry)) (arraysIn (now (table .entry))) (now (bounds .entry)) context best (readExpression level (now (image .entry)) at)
+    ensures { λ r. ⌜ r ≡ limited (now (types .entry)) (arraysIn (now (table .entry))) (boundsIn (now (bounds .entry))) context best (readExpression level (now (image .entry)) at)
         (readExpression level (now (image .entry)) (endOf (readExpression level (now (image .entry)) at))) ⌝ }
 {
     let from = label_bound(image, table, types, bounds, context, at, level, best);
     let n = from.next;
     let to = label_bound(image, table, types, bounds, context, n, level, from.best);
-    let inside = bound_inside(image, at, n);
+    let inside = loop_inside(image, at, n);
     let found = to.best;
     Limited {
         inside,

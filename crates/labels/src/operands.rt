@@ -1,25 +1,16 @@
 // What the words of one operand say.
-use super::UNBOUNDED;
+use super::BOUNDS;
+use super::enclosing::loop_around;
+use super::sums::bounded_addition;
 use image_words::kind;
 use image_words::kinds;
 use image_words::lists::element;
-use image_words::lists::wide;
 use image_words::payload;
 ghost use mathlib.Core.Path.{_≡_};
 ghost use Prim.Native.Nat.{_<_};
-ghost use lib.ListN.{getD, length};
+ghost use lib.ListN.{length};
+ghost use Rattle.labels.specs.Enclosing.{boundsIn};
 ghost use Rattle.labels.specs.Operand.{constantAt, valueAt, boundedAt};
-
-// The upper bound of the enclosing for over a variable.
-fn bound_of(bounds: &[u32], x: u32) -> u32
-    ensures { λ r. ⌜ r ≡ getD (now (bounds .entry)) x 4294967295 ⌝ }
-{
-    let i = wide(x);
-    if i < bounds.len() {
-        return bounds[i];
-    }
-    UNBOUNDED
-}
 
 // Whether the operand at a place is a constant.
 pub fn constant_at(image: &[u32], at: usize) -> bool
@@ -46,14 +37,21 @@ pub fn value_at(image: &[u32], at: usize) -> u32
 }
 
 // Whether the operand at a place is an index that stays below a length in every run.
-pub fn bounded_at(image: &[u32], bounds: &[u32; 256], size: u32, at: usize) -> bool
+pub fn bounded_at(image: &[u32], bounds: &[u32; BOUNDS], size: u32, at: usize) -> bool
     requires { ⌜ at < length (now image) ⌝ }
-    ensures { λ r. ⌜ r ≡ boundedAt (now (image .entry)) (now (bounds .entry)) size at ⌝ }
+    ensures { λ r. ⌜ r ≡ boundedAt (now (image .entry)) (boundsIn (now (bounds .entry))) size at ⌝ }
 {
     if constant_at(image, at) {
         return value_at(image, at) < size;
     }
     let w = image[at];
-    let bound = bound_of(bounds, payload(w));
-    (kind(w) == kinds::VARIABLE) & (bound <= size)
+    let k = kind(w);
+    if k == kinds::VARIABLE {
+        let l = loop_around(bounds, payload(w));
+        return l.upper <= size;
+    }
+    if k == kinds::BINARY {
+        return bounded_addition(image, bounds, size, at);
+    }
+    false
 }

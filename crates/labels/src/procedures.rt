@@ -1,4 +1,5 @@
 // The procedures of an image, one after the other.
+use super::BOUNDS;
 use super::Scope;
 use super::UNBOUNDED;
 use super::statements::label_block;
@@ -39,7 +40,7 @@ fn label_procedure(image: &[u32], table: &[u32; SIZE], me: u32, best: Fault) -> 
     let first = tables::place(table, me) + 1 + 1;
     let body = tables::body(table, me);
     let types = &image[first..body];
-    let mut bounds = [UNBOUNDED; 256];
+    let mut bounds = [UNBOUNDED; BOUNDS];
     let b = label_block(
         image,
         table,

@@ -1,6 +1,9 @@
 // The statements that hold blocks, and blocks: the context that they stand in, and the lowest of their faults.
+use super::BOUNDS;
 use super::Scope;
 use super::Walked;
+use super::enclosing::loop_around;
+use super::enclosing::put_loop;
 use super::expressions::label_expression;
 use super::leaves::label_assign;
 use super::leaves::label_call;
@@ -10,9 +13,6 @@ use super::loops::label_bounds;
 use contexts::Context;
 use contexts::rc_block;
 use definitions::Fault;
-use image_words::lists::element;
-use image_words::lists::put;
-use image_words::lists::wide;
 use image_words::op;
 use image_words::ops;
 use image_words::payload;
@@ -26,6 +26,7 @@ ghost use Rattle.laws.specs.ImageIn.{proceduresIn};
 ghost use Rattle.image_words.specs.Read.{StatementRead, BlockRead};
 ghost use Rattle.tables.specs.Table.{arraysIn, paramsIn};
 ghost use Rattle.tables.specs.Looking.{Listed};
+ghost use Rattle.labels.specs.Enclosing.{boundsIn};
 ghost use Rattle.labels.specs.Blocks.{walked, walkedBlock};
 
 // A block: its statements in order, each with the rc that the one before it leaves.
@@ -33,7 +34,7 @@ pub fn label_block(
     image: &[u32],
     table: &[u32; SIZE],
     types: &[u32],
-    bounds: &mut [u32; 256],
+    bounds: &mut [u32; BOUNDS],
     scope: Scope,
     context: Context,
     at: usize,
@@ -41,8 +42,8 @@ pub fn label_block(
     best: Fault,
 ) -> Walked
     requires { ⌜ BlockRead level (paramsIn (now table)) (scope .me) (now image) at × Listed (now image) (now table) (scope .me) ⌝ }
-    ensures { λ r. ⌜ (r ≡ walkedBlock (proceduresIn (now (image .entry))) (arraysIn (now (table .entry))) (now (types .entry)) (now (bounds .entry)) scope (context .pc) (context .rc) best
-        (readBlock level (paramsIn (now (table .entry))) (scope .me) (now (image .entry)) at)) × (now (bounds .exit) ≡ now (bounds .entry)) ⌝ }
+    ensures { λ r. ⌜ (r ≡ walkedBlock (proceduresIn (now (image .entry))) (arraysIn (now (table .entry))) (now (types .entry)) (boundsIn (now (bounds .entry))) scope (context .pc) (context .rc) best
+        (readBlock level (paramsIn (now (table .entry))) (scope .me) (now (image .entry)) at)) × (boundsIn (now (bounds .exit)) ≡ boundsIn (now (bounds .entry))) ⌝ }
 {
     let count = payload(image[at]);
     let mut j = 0;
@@ -73,7 +74,7 @@ fn label_statement(
     image: &[u32],
     table: &[u32; SIZE],
     types: &[u32],
-    bounds: &mut [u32; 256],
+    bounds: &mut [u32; BOUNDS],
     scope: Scope,
     context: Context,
     at: usize,
@@ -81,8 +82,8 @@ fn label_statement(
     best: Fault,
 ) -> Walked
     requires { ⌜ StatementRead level (paramsIn (now table)) (scope .me) (now image) at × Listed (now image) (now table) (scope .me) ⌝ }
-    ensures { λ r. ⌜ (r ≡ walked (proceduresIn (now (image .entry))) (arraysIn (now (table .entry))) (now (types .entry)) (now (bounds .entry)) scope (context .pc) (context .rc) at best
-        (readStatement level (paramsIn (now (table .entry))) (scope .me) (now (image .entry)) at)) × (now (bounds .exit) ≡ now (bounds .entry)) ⌝ }
+    ensures { λ r. ⌜ (r ≡ walked (proceduresIn (now (image .entry))) (arraysIn (now (table .entry))) (now (types .entry)) (boundsIn (now (bounds .entry))) scope (context .pc) (context .rc) at best
+        (readStatement level (paramsIn (now (table .entry))) (scope .me) (now (image .entry)) at)) × (boundsIn (now (bounds .exit)) ≡ boundsIn (now (bounds .entry))) ⌝ }
 {
     let o = op(image[at]);
     if o == ops::ASSIGN {
@@ -108,7 +109,7 @@ fn label_if(
     image: &[u32],
     table: &[u32; SIZE],
     types: &[u32],
-    bounds: &mut [u32; 256],
+    bounds: &mut [u32; BOUNDS],
     scope: Scope,
     context: Context,
     at: usize,
@@ -116,8 +117,8 @@ fn label_if(
     best: Fault,
 ) -> Walked
     requires { ⌜ StatementRead level (paramsIn (now table)) (scope .me) (now image) at × (opOf (getD (now image) at 0) ≡ 2) × Listed (now image) (now table) (scope .me) ⌝ }
-    ensures { λ r. ⌜ (r ≡ walked (proceduresIn (now (image .entry))) (arraysIn (now (table .entry))) (now (types .entry)) (now (bounds .entry)) scope (context .pc) (context .rc) at best
-        (readStatement level (paramsIn (now (table .entry))) (scope .me) (now (image .entry)) at)) × (now (bounds .exit) ≡ now (bounds .entry)) ⌝ }
+    ensures { λ r. ⌜ (r ≡ walked (proceduresIn (now (image .entry))) (arraysIn (now (table .entry))) (now (types .entry)) (boundsIn (now (bounds .entry))) scope (context .pc) (context .rc) at best
+        (readStatement level (paramsIn (now (table .entry))) (scope .me) (now (image .entry)) at)) × (boundsIn (now (bounds .exit)) ≡ boundsIn (now (bounds .entry))) ⌝ }
 {
     let secret = context.pc | context.rc;
     let inner = level - 1;
@@ -144,7 +145,7 @@ fn label_for(
     image: &[u32],
     table: &[u32; SIZE],
     types: &[u32],
-    bounds: &mut [u32; 256],
+    bounds: &mut [u32; BOUNDS],
     scope: Scope,
     context: Context,
     at: usize,
@@ -152,8 +153,8 @@ fn label_for(
     best: Fault,
 ) -> Walked
     requires { ⌜ StatementRead level (paramsIn (now table)) (scope .me) (now image) at × (opOf (getD (now image) at 0) ≡ 3) × Listed (now image) (now table) (scope .me) ⌝ }
-    ensures { λ r. ⌜ (r ≡ walked (proceduresIn (now (image .entry))) (arraysIn (now (table .entry))) (now (types .entry)) (now (bounds .entry)) scope (context .pc) (context .rc) at best
-        (readStatement level (paramsIn (now (table .entry))) (scope .me) (now (image .entry)) at)) × (now (bounds .exit) ≡ now (bounds .entry)) ⌝ }
+    ensures { λ r. ⌜ (r ≡ walked (proceduresIn (now (image .entry))) (arraysIn (now (table .entry))) (now (types .entry)) (boundsIn (now (bounds .entry))) scope (context .pc) (context .rc) at best
+        (readStatement level (paramsIn (now (table .entry))) (scope .me) (now (image .entry)) at)) × (boundsIn (now (bounds .exit)) ≡ boundsIn (now (bounds .entry))) ⌝ }
 {
     let x = target(image[at]);
     let secret = context.pc | context.rc;
@@ -165,11 +166,10 @@ fn label_for(
         pc: context.pc,
         rc: after.rc,
     };
-    let i = wide(x);
-    let outside = element(bounds, i);
-    put(bounds, i, t.inside);
+    let outside = loop_around(bounds, x);
+    put_loop(bounds, x, t.inside);
     let b = label_block(image, table, types, bounds, scope, now, n, inner, t.best);
-    put(bounds, i, outside);
+    put_loop(bounds, x, outside);
     let found = b.best;
     Walked {
         rc: after.rc,

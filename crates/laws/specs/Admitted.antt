@@ -1,5 +1,5 @@
--- An image is admitted where it was read and has no fault. Assumes nothing.
-use mathlib.Core.Path.{_≡_, refl}
+-- An image is admitted where it was read and has no fault, and all its answers come from that. Assumes nothing.
+use mathlib.Core.Path.{_≡_, refl, ap}
 use mathlib.Core.Bool.{Bool, true, false}
 use mathlib.Core.List.{List}
 use Prim.Native.Nat.{ℕ}
@@ -11,6 +11,10 @@ use Rattle.definitions.specs.declared.Checked.the-variants.{Accepted}
 use Rattle.definitions.specs.Image.{Image}
 use Rattle.definitions.specs.Reading.{Parse, got, refused, readImage}
 use Rattle.definitions.specs.Checking.{faultOf, withoutFault, admitted, verdict, checked}
+use Rattle.definitions.specs.Compiling.{compiled}
+use Rattle.definitions.specs.Describing.{described}
+use Rattle.definitions.specs.Requests.{readyToLoad}
+use Rattle.statements.specs.FormerAnswers.{AnswersAs}
 
 module _ (whole : Bool) (words : List ℕ) (tree : Image) (n : ℕ) where
   pub admit : readImage whole words ≡ got tree n → faultOf tree .number ≡ 0 → admitted whole words ≡ got tree n
@@ -39,3 +43,9 @@ accepted-admitted whole words = go (admitted whole words) refl
     go : (x : Parse Image) → admitted whole words ≡ x → verdict x ≡ Accepted → (tree : Image) × (n : ℕ) × (admitted whole words ≡ got tree n)
     go (got tree n) e h = (tree, n, e)
     go (refused n p) e h = let z : _≡_ {A = ℕ} 0 1 = cc in (absurd (omega arith))
+
+-- what is admitted is all that an answer takes from the rules
+pub answers-as : (whole : Bool) (image : List ℕ) (x : Parse Image) → admitted whole image ≡ x → AnswersAs x whole image
+unfolding checked compiled described readyToLoad
+answers-as whole image x e =
+    record { checks = ap verdict e; compiles = λ out. rw e refl; describes = λ out. rw e refl; readies = λ count. rw e refl }

@@ -13,11 +13,9 @@ use Rattle.definitions.specs.Image.{localsOf, procedureWord, typeWord, arrayWor
 use Rattle.definitions.specs.Reading.{Parse, got, refused, andThen, onWord, readBlock, readTypes, readArrays, readProcedure}
 use Rattle.definitions.specs.Reading.{readProcedures, readRest, readImage}
 use Rattle.definitions.specs.Checking.{withoutFault, verdict, admitted, checked}
-use Rattle.definitions.specs.Compiling.{compiledTree, compiled}
-use Rattle.definitions.specs.Describing.{describedTree, described}
-use Rattle.definitions.specs.Requests.{withCells, readyToLoad}
 use Rattle.statements.specs.FormerLimits.{readProcedureBy, readProceduresBy, readRestBy, readImageBy, formerLevel}
 use Rattle.statements.specs.FormerLimits.{formerReadImage, From, from-got, from-refused, Kept, same-part, same-refusal, deeper, SameAnswers}
+use Rattle.laws.specs.Admitted.{answers-as}
 use Rattle.laws.specs.Deeper.{from-then, from-word, from-block, kept-then, kept-after, kept-word}
 use Rattle.laws.specs.Deeper.{kept-block}
 
@@ -196,14 +194,8 @@ same-reading (deeper {p} i f) h = absurd (h p refl)
 
 -- reading is all that an answer takes from the limits
 answers-from : (whole : Bool) (image : List ℕ) → readImage whole image ≡ formerReadImage whole image → SameAnswers whole image
-unfolding checked compiled described readyToLoad admitted withoutFault verdict
-answers-from whole image e =
-    record {
-      checks = ap (λ (x : Parse Image). verdict (withoutFault x)) e;
-      compiles = λ out. ap (λ (x : Parse Image). compiledTree (withoutFault x) out) e;
-      describes = λ out. ap (λ (x : Parse Image). describedTree (withoutFault x) out) e;
-      readies = λ count. ap (λ (x : Parse Image). withCells (withoutFault x) count) e;
-    }
+unfolding admitted
+answers-from whole image e = answers-as whole image (withoutFault (formerReadImage whole image)) (ap withoutFault e)
 
 pub same-answers : (whole : Bool) (image : List ℕ) → ((p : ℕ) → checked whole image ≡ Refused 5 p → ⊥) → SameAnswers whole image
 unfolding checked admitted withoutFault verdict

@@ -20,6 +20,7 @@ pub mod ReadImages
 pub mod Reads
 pub mod Spelled
 pub mod StatementInversion
+pub mod Sums
 pub mod Tests
 pub mod Trees
 pub mod WordTests

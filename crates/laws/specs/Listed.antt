@@ -4,6 +4,7 @@ use mathlib.Core.List.{List, [], _∷_, _++_, flatMap}
 use Prim.Native.Nat.{ℕ, _+_}
 use lib.ListN.{length, set}
 use Rattle.definitions.specs.declared.Fault.{Fault}
+use Rattle.definitions.specs.declared.ConstantLoop.{ConstantLoop}
 use Rattle.definitions.specs.Image.{Expression, Statement, Block, Procedure, Image, procedureAt}
 use Rattle.definitions.specs.Faults.{fault, faultIf}
 use Rattle.definitions.specs.Sorts.{inside, sortFaults, argumentFaults, statementSortFaults, blockSortFaults}
@@ -93,7 +94,7 @@ module _ {P : Fault → Type 0} {R : ℕ → Type 0}
     (flow : (p : ℕ) → R p → P (fault 9 p)) (secret : (p : ℕ) → R p → P (fault 10 p)) (unbounded : (p : ℕ) → R p → P (fault 11 p))
     (unguarded : (p : ℕ) → R p → P (fault 12 p)) (branch : (p : ℕ) → R p → P (fault 13 p)) where
   module _ (types arrays : List ℕ) where
-    all-labels : (bounds : List ℕ) (context : Bool) {e : Expression} → ExpressionPlaces R e → All P (labelFaults types arrays bounds context e)
+    all-labels : (bounds : List ConstantLoop) (context : Bool) {e : Expression} → ExpressionPlaces R e → All P (labelFaults types arrays bounds context e)
     unfolding labelFaults
     all-labels bounds context (at-constant h) = all-none
     all-labels bounds context (at-boolean h) = all-none
@@ -105,21 +106,21 @@ module _ {P : Fault → Type 0} {R : ℕ → Type 0}
     all-labels bounds context (at-select h r s t) =
         all-append (all-labels bounds context r) (all-append (all-labels bounds context s) (all-labels bounds context t))
 
-    all-argument-labels : (bounds : List ℕ) (context : Bool) (callee : List ℕ) (k : ℕ) {es : List Expression} → ExpressionsPlaces R es
+    all-argument-labels : (bounds : List ConstantLoop) (context : Bool) (callee : List ℕ) (k : ℕ) {es : List Expression} → ExpressionsPlaces R es
         → All P (argumentLabelFaults types arrays bounds context callee k es)
     unfolding argumentLabelFaults
     all-argument-labels bounds context callee k no-expression = all-none
     all-argument-labels bounds context callee k (and-expression r s) =
         let i = all-labels bounds context r in let j = all-argument-labels bounds context callee (k + 1) s in search (listed, flow)
 
-    all-bound-labels : (bounds : List ℕ) (context : Bool) {e : Expression} → ExpressionPlaces R e → All P (loopBoundFaults types arrays bounds context e)
+    all-bound-labels : (bounds : List ConstantLoop) (context : Bool) {e : Expression} → ExpressionPlaces R e → All P (loopBoundFaults types arrays bounds context e)
     all-bound-labels bounds context r = let i = all-labels bounds context r in search (listed, secret, unbounded)
 
     module _ (form : ℕ) (ps : List Procedure) (result : ℕ) where
       mutual
         unfolding statementLabelFaults blockLabelFaults
 
-        all-statement-labels : (bounds : List ℕ) (pc rc : Bool) {p : ℕ} {s : Statement} → R p → StatementPlaces R s
+        all-statement-labels : (bounds : List ConstantLoop) (pc rc : Bool) {p : ℕ} {s : Statement} → R p → StatementPlaces R s
             → All P (statementLabelFaults form ps arrays types result bounds pc rc p s)
         all-statement-labels bounds pc rc h (in-assign r) = let i = all-labels bounds (pc || rc) r in search (listed, flow)
         all-statement-labels bounds pc rc h (in-store r s) =
@@ -136,7 +137,7 @@ module _ {P : Fault → Type 0} {R : ℕ → Type 0}
         all-statement-labels bounds pc rc h (in-call {f = f} r) =
             let i = all-argument-labels bounds (pc || rc) (procedureAt ps f .types) 0 r in search (listed, flow, unguarded)
 
-        all-block-labels : (bounds : List ℕ) (pc rc : Bool) {b : Block} → BlockPlaces R b
+        all-block-labels : (bounds : List ConstantLoop) (pc rc : Bool) {b : Block} → BlockPlaces R b
             → All P (blockLabelFaults form ps arrays types result bounds pc rc b)
         all-block-labels bounds pc rc in-done = all-none
         all-block-labels bounds pc rc (in-sequence {s = s} h r t) =

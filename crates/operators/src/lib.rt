@@ -4,6 +4,9 @@ ghost use Prim.Native.Nat.{_<_};
 ghost use Rattle.definitions.specs.Arithmetic as arithmetic;
 ghost use Rattle.definitions.specs.Operators.{operator, applyBinary, applyUnary};
 
+// Operator 0 adds.
+pub const OP_ADD: u32 = 0;
+
 // Operators 6 to 8 shift and record their count, 9 and 10 divide and record both operands: the first of each, and the first after them.
 pub const OP_SHIFT_LEFT: u32 = 6;
 

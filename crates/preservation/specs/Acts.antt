@@ -3,23 +3,24 @@ use mathlib.Core.Path.{_≡_, refl, _∙_}
 use mathlib.Core.Logic.{_≢_}
 use mathlib.Core.Bool.{Bool, true, false, _&&_, _||_, false≢true}
 use mathlib.Core.List.{List}
-use Prim.Native.Nat.{ℕ, _+_, _<_, _≤_}
+use Prim.Native.Nat.{ℕ, _+_, _-_, _<_, _≤_}
 use native.Mathlib.Omega.{arith}
 use lib.Dec.{eqb}
 use lib.ListN.{length, getD, set, length-set}
 use lib.Seq.{getD-set-same, getD-set-other, set-getD}
 use borrow.Author.Tests.{eqb-true, eqb-false, ne-eqb}
 use Rattle.definitions.specs.Choice.{pick}
+use Rattle.definitions.specs.declared.ConstantLoop.{ConstantLoop}
 use Rattle.definitions.specs.Arithmetic.{logicalAnd, truth}
 use Rattle.definitions.specs.Operators.{applyBinary}
 use Rattle.definitions.specs.Image.{Expression, variable, select, conditional, loop, unary, assign, Block, sequence}
 use Rattle.definitions.specs.Sorts.{outside, inside}
-use Rattle.definitions.specs.Labels.{isConstant, constantValue, unbounded, boundsInside}
+use Rattle.definitions.specs.Labels.{isConstant, constantValue, constantLoop, unbounded, loopOf, boundsInside}
 use Rattle.definitions.specs.Compiling.{act, under, followedBy, one, compiledIf, compiledStatement}
 use Rattle.definitions.specs.Running.{Trace, Evaluated, value, evaluate, operated}
 use Rattle.laws.specs.Tests.{or-true, or-false, or-left, or-right}
 use Rattle.preservation.specs.Relations.{SafeValue, sound, SimValue, safe-bind, sim-through}
-use Rattle.preservation.specs.Evaluations.{Bounded}
+use Rattle.preservation.specs.Evaluations.{MayBound, Within, Bounded}
 use Rattle.preservation.specs.Layouts.{Layout, Scope, InUse, Reserved, Allocation, renamed-injective, actAt}
 use Rattle.preservation.specs.Layouts.{operand, rcAfterBlockAt, secretAt, slot}
 use Rattle.preservation.specs.Rules.{loop-variable}
@@ -190,27 +191,30 @@ module _ {L : Layout} {S : Scope} {pc : Bool} {arm : ℕ} {rc : Bool} {k l x : �
       let i = loop-variable (h .rules) in
       (λ e. d .1 x (i .0) e (i .1), (d .0, λ x′ j e. let n : x′ ≢ x = (λ q. d .1 x (i .0) (rw q at e) (i .1)) in rw (getD-set-other (S .marks) x x′ inside 0 n) (d .1 x′ j e)))
 
-  -- a pass is below the for's upper bound
-  pub bound-below : (to : ℕ) → (isConstant g ≡ true → to ≡ constantValue g) → (i : ℕ) → i < to
-      → getD (boundsInside (S .bounds) x f g) x unbounded < 65536 → i < getD (boundsInside (S .bounds) x f g) x unbounded
-  bound-below to q i u =
+  -- a pass is within the for's bounds
+  pub pass-within : (from to : ℕ) → (isConstant f ≡ true → from ≡ constantValue f) → (isConstant g ≡ true → to ≡ constantValue g) → (i : ℕ) → from ≤ i → i < to
+      → MayBound (getD (boundsInside (S .bounds) x f g) x unbounded) → Within (getD (boundsInside (S .bounds) x f g) x unbounded) i
+  pass-within from to p q i a u =
       let j = loop-variable (h .rules) .0 in
       let n = h .allocation .few in
       let m = h .allocation .boundsSize in
-      rw (getD-set-same (S .bounds) x (pick (isConstant f && isConstant g) (constantValue g) unbounded) unbounded (omega arith)) (go (isConstant f) (isConstant g) refl)
+      rw (getD-set-same (S .bounds) x (loopOf f g) unbounded (omega arith)) (go (isConstant f) (isConstant g) refl refl)
     where
-      go : (c d : Bool) → isConstant g ≡ d → pick (c && d) (constantValue g) unbounded < 65536 → i < pick (c && d) (constantValue g) unbounded
-      go true true e v = rw (q e) at u
-      go true false e v = absurd (omega arith)
-      go false d e v = absurd (omega arith)
+      either : Bool → ConstantLoop
+      either c = pick c (constantLoop (constantValue g - constantValue f) (constantValue g)) unbounded
+
+      go : (c d : Bool) → isConstant f ≡ c → isConstant g ≡ d → MayBound (either (c && d)) → Within (either (c && d)) i
+      go true true r e v = let m = p r in let n = q e in (omega arith, omega arith)
+      go true false r e v = let l = v (omega arith) in absurd (omega arith)
+      go false d r e v = let l = v (omega arith) in absurd (omega arith)
 
   pub entered-bounded : (us : List ℕ) → length us ≡ 255 → Bounded (S .bounds) (L .first) us → (i : ℕ)
-      → (getD (boundsInside (S .bounds) x f g) x unbounded < 65536 → i < getD (boundsInside (S .bounds) x f g) x unbounded)
+      → (MayBound (getD (boundsInside (S .bounds) x f g) x unbounded) → Within (getD (boundsInside (S .bounds) x f g) x unbounded) i)
       → Bounded (boundsInside (S .bounds) x f g) (L .first) (set us (slot L x) i)
   entered-bounded us s c i u y = go (eqb y x) refl
     where
-      go : (t : Bool) → eqb y x ≡ t → getD (boundsInside (S .bounds) x f g) y unbounded < 65536
-          → getD (set us (slot L x) i) (slot L y) 0 < getD (boundsInside (S .bounds) x f g) y unbounded
+      go : (t : Bool) → eqb y x ≡ t → MayBound (getD (boundsInside (S .bounds) x f g) y unbounded)
+          → Within (getD (boundsInside (S .bounds) x f g) y unbounded) (getD (set us (slot L x) i) (slot L y) 0)
       go true e =
           let j = h .allocation .low x (loop-variable (h .rules) .0) in
           let n = h .allocation .base in
@@ -220,12 +224,12 @@ module _ {L : Layout} {S : Scope} {pc : Bool} {arm : ℕ} {rc : Bool} {k l x : �
       go false e =
           let n = eqb-false y x e in
           rw (
-            getD-set-other (S .bounds) x y (pick (isConstant f && isConstant g) (constantValue g) unbounded) unbounded n,
+            getD-set-other (S .bounds) x y (loopOf f g) unbounded n,
             getD-set-other us (slot L x) (slot L y) i 0 (λ q. n (renamed-injective (L .first) y x q)),
           ) (c y)
 
   pub entered-off : {us : List ℕ} → OffFrame L S pc arm (rcAfterBlockAt L pc rc b) us → (i : ℕ)
-      → (getD (boundsInside (S .bounds) x f g) x unbounded < 65536 → i < getD (boundsInside (S .bounds) x f g) x unbounded)
+      → (MayBound (getD (boundsInside (S .bounds) x f g) x unbounded) → Within (getD (boundsInside (S .bounds) x f g) x unbounded) i)
       → OffFrame L (entered S x f g) pc arm (rcAfterBlockAt L pc rc b) (set us (slot L x) i)
   entered-off {us} c i u =
       record { size = length-set us (slot L x) i ∙ c .size; off = go (c .off); bounded = entered-bounded us (c .size) (c .bounded) i u }

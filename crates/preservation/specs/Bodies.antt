@@ -16,6 +16,7 @@ use Rattle.definitions.specs.Compiling.{secretBoolean, renamed, defers, guards,
 use Rattle.definitions.specs.Compiling.{firstMoved, blockTemporaries, compiledTypes}
 use Rattle.laws.specs.Tests.{and-left, conjuncts}
 use Rattle.preservation.specs.WellRead.{wellReadProcedure, countedBlock}
+use Rattle.preservation.specs.Evaluations.{MayBound}
 use Rattle.preservation.specs.Layouts.{Layout, Scope, Reserved, Allocation}
 use Rattle.preservation.specs.Positions.{codes, sizeOfBlock, BlockAt}
 use Rattle.preservation.specs.Marks.{mark-length-block, mark-marks-block}
@@ -48,10 +49,16 @@ scopeOf I P = record { marks = markBlock (P .body) (replicate 256 ordinary); bou
 abbrev pub bodyCode : Image → Procedure → Block
 bodyCode I P = codes (layoutOf I P) (P .body) (guarded P) (P .parameters) false (firstTemporary (I .arrays) P)
 
-pub getD-default : (n x d : ℕ) → getD (replicate n d) x d ≡ d
+pub getD-default : {A : Type 0} (n x : ℕ) (d : A) → getD (replicate n d) x d ≡ d
 getD-default zero x d = refl
 getD-default (suc n) zero d = refl
 getD-default (suc n) (suc x) d = getD-default n x d
+
+-- a body begins outside of every for
+pub no-bounds : (x : ℕ) → MayBound (getD (replicate 256 unbounded) x unbounded) → ⊥
+no-bounds x q =
+    let l : MayBound unbounded = rw (getD-default 256 x unbounded) at q in
+    let n = l (omega arith) in omega arith
 
 module _ {I : Image} {P : Procedure} (h : Accepted I P) where
   pub few-parameters : P .parameters ≤ 8
@@ -140,7 +147,7 @@ module _ {I : Image} {P : Procedure} (h : Accepted I P) where
         few = omega arith;
         marksSize = mark-length-block (P .body) (replicate 256 ordinary) ∙ length-replicate 256 ordinary;
         boundsSize = length-replicate 256 unbounded;
-        tied = λ x q. absurd (no-bound x q);
+        tied = λ x q. absurd (no-bounds x q);
         base = omega arith;
         returns = λ d. rw d (omega arith);
         armed = guard-reserved;
@@ -149,9 +156,6 @@ module _ {I : Image} {P : Procedure} (h : Accepted I P) where
         begins = λ e. absurd (false≢true e);
         ends = λ e. e;
       }
-    where
-      no-bound : (x : ℕ) → getD (replicate 256 unbounded) x unbounded < 65536 → ⊥
-      no-bound x q = let e = getD-default 256 x unbounded in omega arith
 
   pub body-block : BlockAt (layoutOf I P) (scopeOf I P) (guarded P) (P .parameters) false (firstTemporary (I .arrays) P) (P .body)
   unfolding procedureSortFaults procedureLabelFaults wellReadProcedure

@@ -1,32 +1,46 @@
 -- Evaluating an expression and its compiled form: alike where the variables that the expression may read have the same values, and without
 -- a fault where it keeps the rules of a secret context. Assumes nothing.
 use mathlib.Core.Path.{_≡_, refl, sym, ap}
-use mathlib.Core.Logic.{_≢_}
-use mathlib.Core.Bool.{Bool, true, false, _&&_, false≢true, true≢false}
+use mathlib.Core.Logic.{_≢_, _⊎_, inl, inr}
+use mathlib.Core.Bool.{Bool, true, false, _&&_, _||_, false≢true, true≢false}
 use mathlib.Core.List.{List, [], _∷_, _++_}
 use Prim.Native.Nat.{ℕ, suc, _+_, _<_}
 use native.Mathlib.Omega.{arith}
-use lib.Dec.{ltb, eqb}
+use lib.Dec.{ltb, leb, eqb}
 use lib.ListN.{length, getD}
-use borrow.Author.Tests.{ltb-true, leb-true, leb-false, eqb-false, not-false, lt-ltb}
+use borrow.Author.Tests.{ltb-true, leb-true, leb-false, eqb-true, eqb-false, not-false, lt-ltb}
 use Rattle.definitions.specs.Choice.{pick}
+use Rattle.definitions.specs.declared.ConstantLoop.{ConstantLoop}
 use Rattle.definitions.specs.Operators.{divides, shifts, applyBinary, leftPublic}
 use Rattle.definitions.specs.Image.{arrayLength, baseOf, Expression, constant, boolean, variable, cell, unary, binary}
 use Rattle.definitions.specs.Image.{select, placeOf}
 use Rattle.definitions.specs.Sorts.{outside, sortFaults, argumentFaults}
-use Rattle.definitions.specs.Labels.{isConstant, constantValue, unbounded, boundedIndex, labelFaults}
+use Rattle.definitions.specs.Labels.{isConstant, constantValue, unbounded, sumBelow, boundedIndex, labelFaults}
 use Rattle.definitions.specs.Labels.{argumentLabelFaults}
 use Rattle.definitions.specs.Compiling.{renamed, moved, movedAll}
 use Rattle.definitions.specs.Running.{Trace, value, stop, bind, inArray, indexAt, divided, shifted, operated, evaluate}
 use Rattle.definitions.specs.Running.{evaluateAll}
 use Rattle.laws.specs.Tests.{kept, empties}
+use Rattle.laws.specs.Sums.{BoundedSum, bounded-sum, binary-parts}
 use Rattle.laws.specs.OperatorTests.{division-publics}
 use Rattle.preservation.specs.Relations.{SafeValue, sound, SimValue, same, broke, safe-bind, sim-bind}
 use Rattle.preservation.specs.Relations.{sim-value-map, both, emitted}
 
--- a variable of a for with constant bounds is below its upper bound
-abbrev pub Bounded : List ℕ → ℕ → List ℕ → Type 0
-Bounded bounds first vs = (x : ℕ) → getD bounds x unbounded < 65536 → getD vs (renamed first x) 0 < getD bounds x unbounded
+-- what may bound an index: a for without a pass, or one whose upper bound a length can reach
+abbrev pub MayBound : ConstantLoop → Type 0
+MayBound for = 0 < for .passes → for .upper < 65536
+
+-- while the for's block runs, it has a pass, and its variable is below its upper bound
+abbrev pub Within : ConstantLoop → ℕ → Type 0
+Within for v = (0 < for .passes) × (v < for .upper)
+
+abbrev pub Bounded : List ConstantLoop → ℕ → List ℕ → Type 0
+Bounded bounds first vs = (x : ℕ) → MayBound (getD bounds x unbounded) → Within (getD bounds x unbounded) (getD vs (renamed first x) 0)
+
+-- a small sum does not wrap
+small-sum : (v w : ℕ) → v + w < 65536 → applyBinary 0 v w ≡ v + w
+unfolding applyBinary
+small-sum v w h = omega arith
 
 -- what a compiled expression comes to in a secret context
 module _ {T : Type 0} (D : Trace T) (arrays : List ℕ) (first : ℕ) (vs cs : List ℕ) where
@@ -40,18 +54,47 @@ module _ {T : Type 0} (D : Trace T) (arrays : List ℕ) (first : ℕ) (vs cs : L
   constant-value (binary p o f g) e t = absurd (false≢true e)
   constant-value (select p c f g) e t = absurd (false≢true e)
 
-  pub index-value : (bounds : List ℕ) → Bounded bounds first vs → (size : ℕ) → size < 65536 → (i : Expression) → boundedIndex bounds size i ≡ true
+  module _ (bounds : List ConstantLoop) (h : Bounded bounds first vs) (size : ℕ) (s : size < 65536) where
+    -- the sum of a variable and a constant is below the length; a for without a pass has no variable while its block runs
+    sum-value : (x c : ℕ) → sumBelow (getD bounds x unbounded) c size ≡ true → getD vs (renamed first x) 0 + c < size
+    sum-value x c = go (eqb (getD bounds x unbounded .passes) 0) refl
+      where
+        go : (none : Bool) → eqb (getD bounds x unbounded .passes) 0 ≡ none → (none || leb (getD bounds x unbounded .upper + c) size) ≡ true
+            → getD vs (renamed first x) 0 + c < size
+        go true q _ =
+            let m = eqb-true (getD bounds x unbounded .passes) 0 q in
+            let w = h x (λ p. absurd (omega arith)) in
+            absurd (omega arith)
+        go false q r =
+            let m = leb-true (getD bounds x unbounded .upper + c) size r in
+            let w = h x (λ _. omega arith) in
+            omega arith
+
+    either-order : (p : ℕ) {f g : Expression} → BoundedSum bounds size f g ⊎ BoundedSum bounds size g f
+        → (v : ℕ) × ((t : T) → evaluate D arrays (moved first (binary p 0 f g)) vs cs t ≡ value v t) × (v < size)
+    unfolding moved evaluate operated
+    either-order p (inl (bounded-sum {x = x} {c = c} e)) =
+        let v = getD vs (renamed first x) 0 in
+        let b = sum-value x c e in
+        (v + c, λ t. rw (small-sum v c (omega arith)) refl, b)
+    either-order p (inr (bounded-sum {x = x} {c = c} e)) =
+        let v = getD vs (renamed first x) 0 in
+        let b = sum-value x c e in
+        (c + v, λ t. rw (small-sum c v (omega arith)) refl, omega arith)
+
+  pub index-value : (bounds : List ConstantLoop) → Bounded bounds first vs → (size : ℕ) → size < 65536 → (i : Expression) → boundedIndex bounds size i ≡ true
       → (v : ℕ) × ((t : T) → evaluate D arrays (moved first i) vs cs t ≡ value v t) × (v < size)
   unfolding boundedIndex moved evaluate
   index-value bounds h size s (constant p v) e = (v, λ t. refl, ltb-true v size e)
   index-value bounds h size s (boolean p v) e = absurd (false≢true e)
   index-value bounds h size s (variable p x) e =
-      let b = leb-true (getD bounds x unbounded) size e in
-      let c = h x (omega arith) in
+      let b = leb-true (getD bounds x unbounded .upper) size e in
+      let c = h x (λ _. omega arith) in
       (getD vs (renamed first x) 0, λ t. refl, omega arith)
   index-value bounds h size s (cell p a i) e = absurd (false≢true e)
   index-value bounds h size s (unary p o f) e = absurd (false≢true e)
-  index-value bounds h size s (binary p o f g) e = absurd (false≢true e)
+  index-value bounds h size s (binary p o f g) e =
+      let (z, sum) = binary-parts bounds size p o f g e in rw z (either-order bounds h size s p sum)
   index-value bounds h size s (select p c f g) e = absurd (false≢true e)
 
   pub safe-index : (a l v : ℕ) → v < arrayLength (getD arrays a 0) → (t : T) → SafeValue (λ j. j ≡ v) (indexAt D arrays a l v t)
@@ -82,7 +125,7 @@ nonzero-constant (select p c e f) h = absurd (true≢false h)
 pub short-array : (w : ℕ) → arrayLength w < 65536
 short-array w = omega arith
 
-module _ {T : Type 0} (D : Trace T) (types arrays bounds : List ℕ) (first : ℕ) (vs cs : List ℕ) (h : Bounded bounds first vs) where
+module _ {T : Type 0} (D : Trace T) (types arrays : List ℕ) (bounds : List ConstantLoop) (first : ℕ) (vs cs : List ℕ) (h : Bounded bounds first vs) where
   -- in a secret context an expression does not fault
   pub safe-value : (e : Expression) → labelFaults types arrays bounds true e ≡ [] → (t : T) → SafeValue (λ (_ : ℕ). Unit {0}) (evaluate D arrays (moved first e) vs cs t)
   unfolding labelFaults moved evaluate operated

@@ -2,7 +2,7 @@
 -- of a statement end. Assumes nothing.
 use mathlib.Core.Path.{_≡_, refl, sym, _∙_}
 use mathlib.Core.Logic.{_≢_}
-use mathlib.Core.Bool.{Bool, true, false, _&&_}
+use mathlib.Core.Bool.{Bool, true, false}
 use mathlib.Core.List.{List}
 use Prim.Native.Nat.{ℕ, _+_, _<_, _≤_}
 use native.Mathlib.Omega.{arith}
@@ -10,12 +10,11 @@ use lib.Dec.{eqb}
 use lib.ListN.{length, getD, set, length-set}
 use lib.Seq.{getD-set-same, getD-set-other}
 use borrow.Author.Tests.{eqb-true, eqb-false}
-use Rattle.definitions.specs.Choice.{pick}
 use Rattle.definitions.specs.Image.{Expression, Block, loop}
 use Rattle.definitions.specs.Sorts.{ordinary, outside, inside}
-use Rattle.definitions.specs.Labels.{unbounded, isConstant, constantValue, boundsInside}
+use Rattle.definitions.specs.Labels.{unbounded, loopOf, boundsInside}
 use Rattle.definitions.specs.Running.{Outcome, next, back}
-use Rattle.preservation.specs.Evaluations.{Bounded, Agree}
+use Rattle.preservation.specs.Evaluations.{MayBound, Within, Bounded, Agree}
 use Rattle.preservation.specs.Layouts.{Layout, Scope, Reserved, Allocation, renamed-injective, slot}
 use Rattle.preservation.specs.Rules.{loop-variable}
 use Rattle.preservation.specs.Positions.{StatementAt, widened, entered}
@@ -160,7 +159,7 @@ module _ {L : Layout} {S : Scope} {val now : ℕ → ℕ} {limit : ℕ} (f : S .
 -- a for's block: entered with its variable at i, and left
 module _ {L : Layout} {S : Scope} {pc : Bool} {arm : ℕ} {rc : Bool} {k l x : ℕ} {f g : Expression} {b : Block} (h : StatementAt L S pc arm rc k l (loop x f g b)) where
   pub live-enter : {val : ℕ → ℕ} {us vs : List ℕ} → Live L S val us vs → (i : ℕ)
-      → (getD (boundsInside (S .bounds) x f g) x unbounded < 65536 → i < getD (boundsInside (S .bounds) x f g) x unbounded)
+      → (MayBound (getD (boundsInside (S .bounds) x f g) x unbounded) → Within (getD (boundsInside (S .bounds) x f g) x unbounded) i)
       → Live L (entered S x f g) val (set us x i) (set vs (slot L x) i)
   live-enter {val} {us} {vs} m i u =
       let j = loop-variable (h .rules) in
@@ -195,7 +194,7 @@ module _ {L : Layout} {S : Scope} {pc : Bool} {arm : ℕ} {rc : Bool} {k l x : �
   leave-bounded vs c y q =
       let t = h .allocation .tied y q in
       let n : y ≢ x = (λ e. let a : getD (S .marks) x 0 ≡ inside = rw e at (t .1) in let b = loop-variable (h .rules) .1 in absurd (omega arith)) in
-      rw (getD-set-other (S .bounds) x y (pick (isConstant f && isConstant g) (constantValue g) unbounded) unbounded n) at (c y) q
+      rw (getD-set-other (S .bounds) x y (loopOf f g) unbounded n) at (c y) q
 
   pub live-leave : {val : ℕ → ℕ} {us vs : List ℕ} → Live L (entered S x f g) val us vs → Live L S val us vs
   live-leave {val} {us} {vs} m =

@@ -30,7 +30,7 @@ use Rattle.preservation.specs.Positions.{public-else, loop-block, loop-a
 use Rattle.preservation.specs.Runs.{Next, onward, safe-one, safe-step, safe-followed, safe-assign}
 use Rattle.preservation.specs.Runs.{safe-conditional, safe-loop, safe-passes}
 use Rattle.preservation.specs.Acts.{off-secret, off-act, off-select, off-under, Unchanged, OffFrame, off-still}
-use Rattle.preservation.specs.Acts.{off-rises, off-arm, narrowed, entered-in-use, entered-off, bound-below}
+use Rattle.preservation.specs.Acts.{off-rises, off-arm, narrowed, entered-in-use, entered-off, pass-within}
 use Rattle.preservation.specs.Acts.{unchanged-refl, unchanged-trans, unchanged-free, unchanged-same}
 use Rattle.preservation.specs.Acts.{code-if-secret, code-if-public}
 
@@ -180,15 +180,15 @@ module _ (L : Layout) {U : Type 0} (D : Trace U) (budget : ℕ) (K : Callee U) (
 
   -- the passes of a for, from i up to a bound
   pub inactive-passes : (x : ℕ) (f g : Expression) (b : Block) → InactiveBlock b → (l m : ℕ) (S : Scope) (pc : Bool) (arm : ℕ) (rc : Bool) (k : ℕ) → StatementAt L S pc arm rc k l (loop x f g b)
-      → (to : ℕ) → (isConstant g ≡ true → to ≡ constantValue g) → (n i : ℕ) → n ≡ to - i → (z : ℕ) (t : U) (vs cs : List ℕ)
+      → (from to : ℕ) → (isConstant f ≡ true → from ≡ constantValue f) → (isConstant g ≡ true → to ≡ constantValue g) → (n i : ℕ) → from ≤ i → n ≡ to - i → (z : ℕ) (t : U) (vs cs : List ℕ)
       → OffFrame L S pc arm (rcAfterBlockAt L pc rc b) vs
       → Safe (Next (Unchanged L S vs) cs) (passes budget m (slot L x) (λ y u us ds. target (codes L b pc arm (rcAfterBlockAt L pc rc b) k) y u us ds) n i z t vs cs)
-  inactive-passes x f g b qb l m S pc arm rc k h to q n i e z t vs cs o =
-      safe-passes budget m (slot L x) (λ y u us ds. target (codes L b pc arm (rcAfterBlockAt L pc rc b) k) y u us ds) to cs
-      (λ j u y w us p. safe-map (λ r. leave j us p r)
+  inactive-passes x f g b qb l m S pc arm rc k h from to p q n i a e z t vs cs o =
+      safe-passes budget m (slot L x) (λ y u us ds. target (codes L b pc arm (rcAfterBlockAt L pc rc b) k) y u us ds) from to cs
+      (λ j d u y w us r. safe-map (λ s. leave j us r s)
       (qb (entered S x f g) pc arm (rcAfterBlockAt L pc rc b) k (loop-block h) y w (set us (slot L x) j) cs
-      (entered-off h (off-after us p) j (λ s. bound-below h to q j u s))))
-      n i e z t vs (unchanged-refl (o .size))
+      (entered-off h (off-after us r) j (λ s. pass-within h from to p q j d u s))))
+      n i a e z t vs (unchanged-refl (o .size))
     where
       off-after : (us : List ℕ) → Unchanged L S vs us → OffFrame L S pc arm (rcAfterBlockAt L pc rc b) us
       off-after us p = off-still (loop-allocation h) o p
@@ -204,7 +204,7 @@ module _ (L : Layout) {U : Type 0} (D : Trace U) (budget : ℕ) (K : Callee U) (
       safe-one D budget (L .arrays) K (loop (slot L x) (operand L f) (operand L g) (codes L b pc arm (rcAfterBlockAt L pc rc b) k)) z t vs cs λ y.
       safe-loop D budget (L .arrays) K (slot L x) (operand L f) (operand L g) (codes L b pc arm (rcAfterBlockAt L pc rc b) k) (constantValue f) (constantValue g) y t vs cs
       (constant-value D (L .arrays) (L .first) vs cs f (c .0)) (constant-value D (L .arrays) (L .first) vs cs g (c .1))
-      λ w u. inactive-passes x f g b qb l 0 S pc arm rc k h (constantValue g) (λ _. refl) (constantValue g - constantValue f) (constantValue f) refl w u vs cs
+      λ w u. inactive-passes x f g b qb l 0 S pc arm rc k h (constantValue f) (constantValue g) (λ _. refl) (λ _. refl) (constantValue g - constantValue f) (constantValue f) (omega arith) refl w u vs cs
       (off-rises o (λ q. rc-rises-block (L .types) (L .arrays) b pc rc q))
 
   pub inactive-done : InactiveBlock done

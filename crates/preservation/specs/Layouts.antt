@@ -10,10 +10,12 @@ use lib.Dec.{ltb}
 use lib.ListN.{length, getD}
 use borrow.Author.Tests.{ltb-true, ltb-false}
 use Rattle.definitions.specs.Choice.{pick}
+use Rattle.definitions.specs.declared.ConstantLoop.{ConstantLoop}
 use Rattle.definitions.specs.Image.{Expression, Statement, Block, Procedure}
 use Rattle.definitions.specs.Sorts.{outside, inside}
 use Rattle.definitions.specs.Labels.{secretIn, rcAfter, rcAfterBlock, unbounded}
 use Rattle.definitions.specs.Compiling.{renamed, moved, movedAll, act}
+use Rattle.preservation.specs.Evaluations.{MayBound}
 
 -- the image's form, procedures and array words; the procedure's parameters, type words and result's type word; the first variable that
 -- moves, RV, and whether a return is deferred
@@ -54,7 +56,7 @@ secretAt L e = secretIn (L .types) (L .arrays) e
 -- what the fors around a place make of each variable, and the first compiled variable that is not in use there
 pub record Scope : Type 0 where
   pub marks : List ℕ
-  pub bounds : List ℕ
+  pub bounds : List ConstantLoop
   pub limit : ℕ
 
 -- variables do not meet by being moved
@@ -86,8 +88,8 @@ pub record Allocation (L : Layout) (S : Scope) (pc : Bool) (arm : ℕ) (rc : Boo
   pub few : length (L .types) ≤ 255
   pub marksSize : length (S .marks) ≡ 256
   pub boundsSize : length (S .bounds) ≡ 256
-  -- a bound is that of an enclosing for
-  pub tied : (x : ℕ) → getD (S .bounds) x unbounded < 65536 → (x < length (L .types)) × (getD (S .marks) x 0 ≡ inside)
+  -- bounds are those of an enclosing for
+  pub tied : (x : ℕ) → MayBound (getD (S .bounds) x unbounded) → (x < length (L .types)) × (getD (S .marks) x 0 ≡ inside)
   pub base : L .rv ≤ S .limit
   pub returns : L .defers ≡ true → L .rv + 2 ≤ S .limit
   pub armed : pc ≡ true → Reserved L (S .limit) arm

@@ -1,7 +1,7 @@
 -- Where a statement or block stands in the compiling of a procedure's body: the rules that it keeps and the variables in use there; and where
 -- its parts stand. Assumes nothing.
 use mathlib.Core.Path.{_≡_, refl, _∙_}
-use mathlib.Core.Bool.{Bool, true, false, _&&_, _||_}
+use mathlib.Core.Bool.{Bool, true, false, _||_}
 use mathlib.Core.List.{List, [], _∷_, _++_}
 use Prim.Native.Nat.{ℕ, _+_, _<_, _≤_}
 use native.Mathlib.Omega.{arith}
@@ -12,10 +12,11 @@ use borrow.Author.Tests.{eqb-true, eqb-false}
 use Rattle.definitions.specs.Choice.{pick}
 use Rattle.definitions.specs.Image.{Expression, Statement, conditional, loop, call, Block, sequence}
 use Rattle.definitions.specs.Sorts.{inside}
-use Rattle.definitions.specs.Labels.{rcAfter, rcAfterBlock, isConstant, constantValue, unbounded, boundsInside}
+use Rattle.definitions.specs.Labels.{rcAfter, rcAfterBlock, unbounded, loopOf, boundsInside}
 use Rattle.definitions.specs.Compiling.{secretBoolean, temporaries, blockTemporaries, compiledStatement, compiledBlock}
 use Rattle.laws.specs.Tests.{or-true, or-false, or-left, or-right}
 use Rattle.preservation.specs.Contexts.{rc-rises-block, rc-again}
+use Rattle.preservation.specs.Evaluations.{MayBound}
 use Rattle.preservation.specs.Layouts.{Layout, Scope, Allocation, rcAfterAt, rcAfterBlockAt, secretAt}
 use Rattle.preservation.specs.Rules.{StatementRules, BlockRules, block-first, block-rest, if-then, if-else}
 use Rattle.preservation.specs.Rules.{loop-variable, loop-body}
@@ -186,7 +187,6 @@ pub loop-block : {L : Layout} {S : Scope} {pc : Bool} {arm : ℕ} {rc : Bool} {k
 unfolding rcAfter temporaries
 loop-block {L} {S} {pc} {arm} {rc} {k} {l} {x} {f} {g} {b} h =
     let z = h .allocation in
-    let v = pick (isConstant f && isConstant g) (constantValue g) unbounded in
     let i = loop-variable (h .rules) in
     record {
       rules = loop-body (h .rules);
@@ -194,7 +194,7 @@ loop-block {L} {S} {pc} {arm} {rc} {k} {l} {x} {f} {g} {b} h =
         low = z .low;
         few = z .few;
         marksSize = length-set (S .marks) x inside ∙ z .marksSize;
-        boundsSize = length-set (S .bounds) x v ∙ z .boundsSize;
+        boundsSize = length-set (S .bounds) x (loopOf f g) ∙ z .boundsSize;
         tied = λ y. go y (eqb y x) refl;
         base = z .base;
         returns = z .returns;
@@ -206,7 +206,7 @@ loop-block {L} {S} {pc} {arm} {rc} {k} {l} {x} {f} {g} {b} h =
       };
     }
   where
-    go : (y : ℕ) (t : Bool) → eqb y x ≡ t → getD (boundsInside (S .bounds) x f g) y unbounded < 65536 → (y < length (L .types)) × (getD (set (S .marks) x inside) y 0 ≡ inside)
+    go : (y : ℕ) (t : Bool) → eqb y x ≡ t → MayBound (getD (boundsInside (S .bounds) x f g) y unbounded) → (y < length (L .types)) × (getD (set (S .marks) x inside) y 0 ≡ inside)
     go y true e q =
         let i = loop-variable (h .rules) .0 in
         let j = h .allocation .few in
@@ -214,7 +214,7 @@ loop-block {L} {S} {pc} {arm} {rc} {k} {l} {x} {f} {g} {b} h =
         rw (eqb-true y x e) (i, getD-set-same (S .marks) x inside 0 (omega arith))
     go y false e q =
         let n = eqb-false y x e in
-        let r : getD (S .bounds) y unbounded < 65536 = rw (getD-set-other (S .bounds) x y (pick (isConstant f && isConstant g) (constantValue g) unbounded) unbounded n) at q in
+        let r : MayBound (getD (S .bounds) y unbounded) = rw (getD-set-other (S .bounds) x y (loopOf f g) unbounded n) at q in
         rw (getD-set-other (S .marks) x y inside 0 n) (h .allocation .tied y r)
 
 -- a for's block among the variables in use around it

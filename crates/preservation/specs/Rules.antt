@@ -7,6 +7,7 @@ use native.Mathlib.Omega.{arith}
 use lib.Dec.{ltb, leb, eqb}
 use lib.ListN.{length, getD, set}
 use borrow.Author.Tests.{leb-true, leb-false, eqb-true, eqb-false, not-false}
+use Rattle.definitions.specs.declared.ConstantLoop.{ConstantLoop}
 use Rattle.definitions.specs.Image.{arrayLength, typeSecret, typeSort, Expression, placeOf, Statement, assign, store}
 use Rattle.definitions.specs.Image.{conditional, loop, return, call, Block, done, sequence, guarded, procedureAt}
 use Rattle.definitions.specs.Operators.{booleanSort}
@@ -62,24 +63,24 @@ mutual
       rw (marked-inside marks x s (and-left (markedStatement marks s) (markedBlock marks b) h)) (marked-inside-block marks x b (and-right (markedStatement marks s) (markedBlock marks b) h))
 
 -- a statement that keeps all rules where it stands
-pub record StatementRules (L : Layout) (marks bounds : List ℕ) (pc rc : Bool) (l : ℕ) (s : Statement) : Type 0 where
+pub record StatementRules (L : Layout) (marks : List ℕ) (bounds : List ConstantLoop) (pc rc : Bool) (l : ℕ) (s : Statement) : Type 0 where
   pub sorts : statementSortFaults (L .procedures) (L .parameters) (L .types) (L .result) (length (L .arrays)) marks l s ≡ []
   pub labels : statementLabelFaults (L .form) (L .procedures) (L .arrays) (L .types) (L .result) bounds pc rc l s ≡ []
   pub counts : countedStatement (L .procedures) s ≡ true
   pub marked : markedStatement marks s ≡ true
 
-pub record BlockRules (L : Layout) (marks bounds : List ℕ) (pc rc : Bool) (b : Block) : Type 0 where
+pub record BlockRules (L : Layout) (marks : List ℕ) (bounds : List ConstantLoop) (pc rc : Bool) (b : Block) : Type 0 where
   pub sorts : blockSortFaults (L .procedures) (L .parameters) (L .types) (L .result) (length (L .arrays)) marks b ≡ []
   pub labels : blockLabelFaults (L .form) (L .procedures) (L .arrays) (L .types) (L .result) bounds pc rc b ≡ []
   pub counts : countedBlock (L .procedures) b ≡ true
   pub marked : markedBlock marks b ≡ true
 
 -- an expression that keeps all rules in a context that is secret or not
-pub record ExpressionRules (L : Layout) (marks bounds : List ℕ) (context : Bool) (e : Expression) : Type 0 where
+pub record ExpressionRules (L : Layout) (marks : List ℕ) (bounds : List ConstantLoop) (context : Bool) (e : Expression) : Type 0 where
   pub sorts : sortFaults (L .types) (length (L .arrays)) marks e ≡ []
   pub labels : labelFaults (L .types) (L .arrays) bounds context e ≡ []
 
-module _ {L : Layout} {marks bounds : List ℕ} {pc rc : Bool} {l : ℕ} where
+module _ {L : Layout} {marks : List ℕ} {bounds : List ConstantLoop} {pc rc : Bool} {l : ℕ} where
   -- an assigned variable is one of the procedure and no loop variable
   pub assign-variable : {x : ℕ} {e : Expression} → StatementRules L marks bounds pc rc l (assign x e) → (x < length (L .types)) × (getD marks x 0 ≡ ordinary)
   unfolding statementSortFaults
@@ -198,7 +199,7 @@ module _ {L : Layout} {marks bounds : List ℕ} {pc rc : Bool} {l : ℕ} where
   unfolding countedStatement
   call-count {f} {x} {es} h = eqb-true (length es) (procedureAt (L .procedures) f .parameters) (h .counts)
 
-module _ {L : Layout} {marks bounds : List ℕ} {pc rc : Bool} where
+module _ {L : Layout} {marks : List ℕ} {bounds : List ConstantLoop} {pc rc : Bool} where
   pub block-first : {l : ℕ} {s : Statement} {b : Block} → BlockRules L marks bounds pc rc (sequence l s b) → StatementRules L marks bounds pc rc l s
   unfolding blockSortFaults blockLabelFaults countedBlock markedBlock
   block-first h =

@@ -2,7 +2,7 @@
 use mathlib.Core.Path.{_≡_, refl}
 use mathlib.Core.Bool.{Bool, true, false}
 use mathlib.Core.List.{List}
-use Prim.Native.Nat.{ℕ, zero, suc, _+_, _-_, _<_}
+use Prim.Native.Nat.{ℕ, zero, suc, _+_, _-_, _≤_, _<_}
 use native.Mathlib.Omega.{arith}
 use lib.Dec.{ltb, eqb}
 use lib.ListN.{set}
@@ -109,13 +109,14 @@ module _ {T : Type 0} (C : Trace T) (budget : ℕ) (arrays : List ℕ) (K : Call
   safe-loop x f g b v w z t vs cs p q k = rw (p t, q t) (safe-within z (emitted C 2 0 v t) λ i u _. safe-within z (emitted C 3 0 w u) λ j y _. k z y)
 
 -- passes that each keep a property of the variables
-pub safe-passes : {T : Type 0} {P : List ℕ → Type 0} (budget l x : ℕ) (body : Body T) (to : ℕ) (cs : List ℕ)
-    → ((i : ℕ) → i < to → (z : ℕ) (t : T) (vs : List ℕ) → P vs → Safe (Next P cs) (body z t (set vs x i) cs))
-    → (n i : ℕ) → n ≡ to - i → (z : ℕ) (t : T) (vs : List ℕ) → P vs → Safe (Next P cs) (passes budget l x body n i z t vs cs)
+pub safe-passes : {T : Type 0} {P : List ℕ → Type 0} (budget l x : ℕ) (body : Body T) (from to : ℕ) (cs : List ℕ)
+    → ((i : ℕ) → from ≤ i → i < to → (z : ℕ) (t : T) (vs : List ℕ) → P vs → Safe (Next P cs) (body z t (set vs x i) cs))
+    → (n i : ℕ) → from ≤ i → n ≡ to - i → (z : ℕ) (t : T) (vs : List ℕ) → P vs → Safe (Next P cs) (passes budget l x body n i z t vs cs)
 unfolding passes
-safe-passes budget l x body to cs k zero i e z t vs p = fine (onward p)
-safe-passes {T} {P} budget l x body to cs k (suc n) i e z t vs p =
-    safe-tick budget l z t _ λ y. safe-go (k i (omega arith) y t vs p) λ o w u q. go (λ w v us h. safe-passes budget l x body to cs k n (i + 1) (omega arith) w v us h) o w u q
+safe-passes budget l x body from to cs k zero i a e z t vs p = fine (onward p)
+safe-passes {T} {P} budget l x body from to cs k (suc n) i a e z t vs p =
+    safe-tick budget l z t _ λ y. safe-go (k i a (omega arith) y t vs p)
+    λ o w u q. go (λ w v us h. safe-passes budget l x body from to cs k n (i + 1) (omega arith) (omega arith) w v us h) o w u q
   where
     go : ((w : ℕ) (v : T) (us : List ℕ) → P us → Safe (Next P cs) (passes budget l x body n (i + 1) w v us cs))
         → (o : Outcome) (w : ℕ) (u : T) → Next P cs o → Safe (Next P cs) (after (λ w v us ds. passes budget l x body n (i + 1) w v us ds) o w u)

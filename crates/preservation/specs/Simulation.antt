@@ -39,7 +39,7 @@ use Rattle.preservation.specs.Positions.{public-else, loop-block, loop-a
 use Rattle.preservation.specs.Runs.{Next, onward, run-followed, run-step, run-conditional, sim-one, sim-assign}
 use Rattle.preservation.specs.Runs.{sim-assign-right}
 use Rattle.preservation.specs.Acts.{offArm, offLive, On, act-value, actOf, act-on, on-select, on-select-value}
-use Rattle.preservation.specs.Acts.{truth-zero, Unchanged, bound-below, code-if-secret, code-if-public}
+use Rattle.preservation.specs.Acts.{truth-zero, Unchanged, pass-within, code-if-secret, code-if-public}
 use Rattle.preservation.specs.Inactive.{InactiveCallee, inactive-passes, inactive-block}
 use Rattle.preservation.specs.Frames.{Live, EndAlike, going, quit, deferred, end-alike-rise, live-still}
 use Rattle.preservation.specs.Frames.{deferred-still, live-free, live-assign, live-return, live-widen}
@@ -357,8 +357,8 @@ module _ (L : Layout) {T U : Type 0} (C : Trace T) (D : Trace U) (budget budget�
 
   -- the passes of a for; where one of them returns in the source, the code's passes that are left are inactive
   module _ (x : ℕ) (f g : Expression) (b : Block) (mb : SimulatedBlock b) (l : ℕ) (S : Scope) (pc : Bool) (arm : ℕ) (rc : Bool) (k : ℕ) (h : StatementAt L S pc arm rc k l (loop x f g b))
-      (val : ℕ → ℕ) (o : pc ≡ true → val arm ≢ 0) (to : ℕ) (c : isConstant g ≡ true → to ≡ constantValue g) where
-    next-pass : (n i : ℕ) → n ≡ to - i
+      (val : ℕ → ℕ) (o : pc ≡ true → val arm ≢ 0) (from to : ℕ) (d : isConstant f ≡ true → from ≡ constantValue f) (c : isConstant g ≡ true → to ≡ constantValue g) where
+    next-pass : (n i : ℕ) → from ≤ i → n ≡ to - i
         → ((z : ℕ) (t : T) (y : ℕ) (u : U) (us vs cs : List ℕ) → Live L S val us vs → Sim (EndAlike L S val (rcAfterBlockAt L pc rc b))
         (passes budget l x (λ n p us ds. source b n p us ds) n i z t us cs)
         (passes budget′ 0 (slot L x) (λ n p us ds. target (codes L b pc arm (rcAfterBlockAt L pc rc b) k) n p us ds) n i y u vs cs))
@@ -368,11 +368,11 @@ module _ (L : Layout) {T U : Type 0} (C : Trace T) (D : Trace U) (budget budget�
         (after (λ w v us ds. passes budget l x (λ n p us ds. source b n p us ds) n i w v us ds) p z t)
         (after (λ w v us ds. passes budget′ 0 (slot L x) (λ n p us ds. target (codes L b pc arm (rcAfterBlockAt L pc rc b) k) n p us ds) n i w v us ds) q y u)
     unfolding rcAfter
-    next-pass n i e ih (next us ds) (next vs _) z t y u (going m) = ih z t y u us vs ds (live-leave h m)
-    next-pass n i e ih (back v ds) (back _ _) z t y u quit = meet quit
-    next-pass n i e ih (back v ds) (next vs _) z t y u (deferred r m) =
+    next-pass n i a e ih (next us ds) (next vs _) z t y u (going m) = ih z t y u us vs ds (live-leave h m)
+    next-pass n i a e ih (back v ds) (back _ _) z t y u quit = meet quit
+    next-pass n i a e ih (back v ds) (next vs _) z t y u (deferred r m) =
         let s = rc-again (L .types) (L .arrays) b pc rc r in
-        sim-more (inactive-passes L D budget′ K kq x f g b (inactive-block L D budget′ K kq b) l 0 S pc arm rc k h to c n i e y u vs ds
+        sim-more (inactive-passes L D budget′ K kq x f g b (inactive-block L D budget′ K kq b) l 0 S pc arm rc k h from to d c n i a e y u vs ds
         (record { size = m .size; off = offLive s (m .ended); bounded = deferred-leave h m .bounded })) λ q a. go q a
       where
         go : (q : Outcome) → Next (Unchanged L S vs) ds q → EndAlike L S val (rcAfterBlockAt L pc rc b) (back v ds) q
@@ -380,28 +380,28 @@ module _ (L : Layout) {T U : Type 0} (C : Trace T) (D : Trace U) (budget budget�
             let s = rc-again (L .types) (L .arrays) b pc rc r in
             deferred s (deferred-still (loop-allocation h) (loop-allocation h .begins s) (deferred-leave h m) a)
 
-    pub simulate-passes : (n i : ℕ) → n ≡ to - i → (z : ℕ) (t : T) (y : ℕ) (u : U) (us vs cs : List ℕ) → Live L S val us vs
+    pub simulate-passes : (n i : ℕ) → from ≤ i → n ≡ to - i → (z : ℕ) (t : T) (y : ℕ) (u : U) (us vs cs : List ℕ) → Live L S val us vs
         → Sim (EndAlike L S val (rcAfterBlockAt L pc rc b))
         (passes budget l x (λ n p us ds. source b n p us ds) n i z t us cs)
         (passes budget′ 0 (slot L x) (λ n p us ds. target (codes L b pc arm (rcAfterBlockAt L pc rc b) k) n p us ds) n i y u vs cs)
     unfolding passes
-    simulate-passes zero i e z t y u us vs cs m = meet (going m)
-    simulate-passes (suc n) i e z t y u us vs cs m =
+    simulate-passes zero i a e z t y u us vs cs m = meet (going m)
+    simulate-passes (suc n) i a e z t y u us vs cs m =
         tick-left budget l z t _ _ λ z₁. tick-right budget′ 0 y u _ _ λ y₁.
         sim-go (mb (entered S x f g) pc arm (rcAfterBlockAt L pc rc b) k (loop-block h) val o z₁ t y₁ u (set us x i) (set vs (slot L x) i) cs
-        (live-enter h m i (λ q. bound-below h to c i (omega arith) q)))
-        λ p q z₂ y₂ t₂ u₂ r. next-pass n (i + 1) (omega arith) (simulate-passes n (i + 1) (omega arith)) p q z₂ t₂ y₂ u₂ r
+        (live-enter h m i (λ q. pass-within h from to d c i a (omega arith) q)))
+        λ p q z₂ y₂ t₂ u₂ r. next-pass n (i + 1) (omega arith) (omega arith) (simulate-passes n (i + 1) (omega arith) (omega arith)) p q z₂ t₂ y₂ u₂ r
 
   pub simulate-loop : (x : ℕ) (f g : Expression) (b : Block) → SimulatedBlock b → Simulated (loop x f g b)
   unfolding compiledStatement runStatement rcAfter
   simulate-loop x f g b mb l S pc arm rc k h val o z t y u us vs cs m =
       sim-one D budget′ (L .arrays) K (runStatement C budget (L .arrays) J l (loop x f g b) z t us cs)
       (loop (slot L x) (operand L f) (operand L g) (codes L b pc arm (rcAfterBlockAt L pc rc b) k)) y u vs cs λ w.
-      sim-within z w (live-value (loop-from (h .rules)) m cs t u) λ f₁ f₂ t₁ u₁ p.
+      sim-within z w (sim-bound C D (L .types) (L .arrays) (S .marks) (L .first) (length (L .arrays)) us vs cs (m .vars) f (loop-from (h .rules) .sorts) t u) λ f₁ f₂ t₁ u₁ p.
       sim-within z w (sim-bound C D (L .types) (L .arrays) (S .marks) (L .first) (length (L .arrays)) us vs cs (m .vars) g (loop-to (h .rules) .sorts) t₁ u₁) λ g₁ g₂ t₂ u₂ q.
       sim-within z w (both (emitted C 2 l f₁ t₂) (emitted D 2 0 f₂ u₂)) λ _ _ t₃ u₃ _.
       sim-within z w (both (emitted C 3 l g₁ t₃) (emitted D 3 0 g₂ u₃)) λ _ _ t₄ u₄ _.
-      rw (p, q .0) (simulate-passes x f g b mb l S pc arm rc k h val o g₂ (q .1) (g₂ - f₂) f₂ refl z t₄ w u₄ us vs cs m)
+      rw (p .0, q .0) (simulate-passes x f g b mb l S pc arm rc k h val o f₂ g₂ (p .1) (q .1) (g₂ - f₂) f₂ (omega arith) refl z t₄ w u₄ us vs cs m)
 
   pub simulate-done : SimulatedBlock done
   unfolding compiledBlock runBlock

@@ -12,12 +12,11 @@ use lib.Seq.{getD-set-same, getD-set-other, getD-append-seam}
 use borrow.Author.Tests.{ltb-true, ltb-false}
 use Rattle.definitions.specs.Choice.{pick}
 use Rattle.definitions.specs.Image.{Procedure, Image, guarded}
-use Rattle.definitions.specs.Labels.{unbounded}
 use Rattle.definitions.specs.Compiling.{renamed, defers, guards, returnVariable, firstMoved}
 use Rattle.definitions.specs.Running.{frame}
 use Rattle.preservation.specs.Acts.{offArm, OffFrame}
 use Rattle.preservation.specs.Frames.{Live}
-use Rattle.preservation.specs.Bodies.{Accepted, layoutOf, scopeOf, getD-default, few-parameters, typed-parameters}
+use Rattle.preservation.specs.Bodies.{Accepted, layoutOf, scopeOf, getD-default, no-bounds, few-parameters, typed-parameters}
 use Rattle.preservation.specs.Bodies.{guards-few, body-block}
 
 -- frames: arguments, then zeros
@@ -72,7 +71,7 @@ module _ {I : Image} {P : Procedure} (h : Accepted I P) where
         size = s;
         vars = λ x i _. let j = body-block h .allocation .low x i in
             k (renamed (firstMoved P) x) (λ q. absurd (omega arith)) ∙ frame-value (ws ++ xs) (renamed (firstMoved P) x) ∙ argument-value P ws xs e f x i ∙ sym (frame-value ws x);
-        bounded = λ x q. absurd (let n = getD-default 256 x unbounded in omega arith);
+        bounded = λ x q. absurd (no-bounds x q);
         reserved = λ y _. refl;
         result = λ _. k (returnVariable P) (λ q. absurd (omega arith)) ∙ frame-value (ws ++ xs) (returnVariable P)
             ∙ List·getD-eq-default (ws ++ xs) 0 (let n = length-append ws xs in let p = typed-parameters h in omega arith);
@@ -99,5 +98,5 @@ module _ {I : Image} {P : Procedure} (h : Accepted I P) where
       record {
         size = s;
         off = offArm g (k (P .parameters) (λ q. let i = typed-parameters h in absurd (omega arith)) ∙ frame-value (ws ++ (0 ∷ [])) (P .parameters) ∙ rw (← e) (getD-append-seam ws 0 [] 0));
-        bounded = λ x q. absurd (let n = getD-default 256 x unbounded in omega arith);
+        bounded = λ x q. absurd (no-bounds x q);
       }

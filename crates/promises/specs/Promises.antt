@@ -2,9 +2,10 @@
 -- (crates/definitions/specs), what stands in crates/statements/specs, and documents 01 and 02 beside them; the proofs stand elsewhere, and are cited at
 -- the end of each section. Every function named here is a request of the definitions on lent bytes (Host). All of them are total, so each gives an
 -- answer; `Bytes` says that what is lent are bytes. Assumes nothing.
-use Prim.Native.Nat.{ℕ, suc, _+_, _*_, _≤_, _<_}
+use Prim.Native.Nat.{ℕ, suc, _+_, _*_, _-_, _≤_, _<_}
 use mathlib.Core.Bool.{true}
 use mathlib.Core.List.{List, [], _∷_, _++_}
+use mathlib.Core.Logic.{_⊎_}
 use mathlib.Core.Path.{_≡_}
 use lib.ListN.{length, take, drop}
 use Rattle.definitions.specs.declared.Fault.{Fault}
@@ -12,13 +13,15 @@ use Rattle.definitions.specs.declared.Answer.{Answer}
 use Rattle.definitions.specs.declared.Answer.the-variants.{Done, Stopped, Refused}
 use Rattle.definitions.specs.declared.Checked.the-variants.{Accepted, Refused as CheckRefused}
 use Rattle.definitions.specs.declared.Compiled.{Compiled}
+use Rattle.definitions.specs.declared.ConstantLoop.{ConstantLoop}
 use Rattle.definitions.specs.declared.Compiled.the-variants.{Written, Refused as CompileRefused}
 use Rattle.definitions.specs.Bytes.{Bytes, wordAt, wordsOf, lent}
-use Rattle.definitions.specs.Image.{largestLevel, Image, cellCount, baseOf}
+use Rattle.definitions.specs.Image.{largestLevel, Expression, constant, variable, binary, Image, cellCount, baseOf}
 use Rattle.definitions.specs.Encoding.{imageWords}
 use Rattle.definitions.specs.Reading.{refused, readImage}
 use Rattle.definitions.specs.Sorts.{imageSortFaults}
-use Rattle.definitions.specs.Labels.{imageLabelFaults}
+use Rattle.definitions.specs.Labels.{boundsInside, boundedIndex, imageLabelFaults}
+use Rattle.definitions.specs.Checking.{admitted, verdict}
 use Rattle.definitions.specs.Compiling.{compiledImage, fitLocals}
 use Rattle.definitions.specs.Operators.{shifts, applyBinary}
 use Rattle.definitions.specs.Running.{traceWords, value, stop, operated}
@@ -33,11 +36,16 @@ use Rattle.statements.specs.Statements.{answerIn, checkedIn, compiledIn}
 use Rattle.tinesage.specs.Contracts.{Checks, Compiles, Describes, Loads, Clears, Pokes, Peeks, Calls, Previews}
 use Rattle.statements.specs.Limits.{FitsImage}
 use Rattle.statements.specs.FormerLimits.{readImageBy, formerReadImage, From, Kept, WithinLimits, SameAnswers}
+use Rattle.statements.specs.FormerAnswers.{AnswersAs}
+use Rattle.statements.specs.FormerIndices.{formerBoundedIndex, todaysRule, admittedBy, formerlyAdmitted, upperBounds, Sum, NamesSum}
 use Rattle.statements.specs.FormerTraces.{callBytesBy, formerCallBytes, noShift, OnlyEntriesAdded}
 use Rattle.laws.specs.FormerLevels.{by-image, limits-keep-answers, one-level-more, same-answers}
 use Rattle.laws.specs.Previews.{preview-is-call-on-a-copy, preview-turn}
 use Rattle.readback.specs.Whole.{image-compiled-fits}
 use Rattle.results.specs.WithinLimits.{within-limits}
+use Rattle.results.specs.IndicesAdded.{variable-and-constant, constant-and-variable, bounded-before-bounded-now, only-sums-added}
+use Rattle.results.specs.IndicesAdded.{by-rule, refused-as-before}
+use Rattle.results.specs.IndicesAdded
 use Rattle.results.specs.CountsAdded.{count-recorded, count-stopped, by-operators, only-entries-added, no-shift-same}
 use Rattle.results.specs.Accepted.{accepted-exactly, refused-exactly, reading-number, sort-number, label-number}
 use Rattle.results.specs.Exactly.{loaded-or-not, ready-or-not, cell-or-not, called-or-not, load-refused-exactly, load-is-done}
@@ -284,6 +292,49 @@ wish-1 =
       within-limits = λ image. within-limits (wholeWords image) (wordsOf image);
       never-too-deep = λ image tree a source. image-compiled-fits tree
           (record { read = a .limits; source-form = source; no-sort-fault = a .no-sort-fault; no-label-fault = a .no-label-fault });
+    }
+
+-- ======== Document 02, wish 2
+-- "In a secret context an index may also be operator 0 over the variable of an enclosing constant-bound loop and a constant, in either order. It is
+-- bounded if the loop has no pass, or if the upper bound minus 1 plus the constant is below the length, in whole numbers. What was accepted compiles to
+-- the same words, and an author's routine using the new index still ends as written." That it ends as written is property 2, which speaks of every
+-- accepted image.
+
+pub record Wish2 : Type 0 where
+  -- In the block of a for over variable x with two constants for bounds, whatever other fors stand around the index: where a sum with a third constant
+  -- is bounded.
+  pub variable-and-constant : (bounds : List ConstantLoop) (x from to : ℕ) → x < length bounds → (c size j k p q r : ℕ)
+      → Iff (boundedIndex (boundsInside bounds x (constant j from) (constant k to)) size (binary p 0 (variable q x) (constant r c)) ≡ true)
+      ((to ≤ from) ⊎ (to - 1 + c < size))
+  pub constant-and-variable : (bounds : List ConstantLoop) (x from to : ℕ) → x < length bounds → (c size j k p q r : ℕ)
+      → Iff (boundedIndex (boundsInside bounds x (constant j from) (constant k to)) size (binary p 0 (constant r c) (variable q x)) ≡ true)
+      ((to ≤ from) ⊎ (to - 1 + c < size))
+  -- Every index that document 01 takes is taken, and no other but sums of a variable and a constant.
+  pub bounded-before-bounded-now : (bounds : List ConstantLoop) (size : ℕ) (i : Expression) → formerBoundedIndex (upperBounds bounds) size i ≡ true
+      → boundedIndex bounds size i ≡ true
+  pub only-sums-added : (bounds : List ConstantLoop) (size : ℕ) (i : Expression) → boundedIndex bounds size i ≡ true
+      → (formerBoundedIndex (upperBounds bounds) size i ≡ true) ⊎ Sum i
+  -- The checker by a given rule for indices is the checker, if the rule is today's: so the former checker is another in this rule alone.
+  pub by-rule : (image : List ℕ) → admittedBy todaysRule (wholeWords image) (wordsOf image) ≡ admitted (wholeWords image) (wordsOf image)
+  -- "What was accepted compiles to the same words": what the former checker admits is admitted as the same tree, and this is all that the compiler and
+  -- every other request look at.
+  pub same-answers : (image : List ℕ) → verdict (formerlyAdmitted (wholeWords image) (wordsOf image)) ≡ Accepted
+      → AnswersAs (formerlyAdmitted (wholeWords image) (wordsOf image)) (wholeWords image) (wordsOf image)
+  -- What was refused is refused with the same number at the same place; or it was refused with 11, at a word of operator 0.
+  pub refused-as-before : (image : List ℕ) (k p : ℕ) → formerlyAdmitted (wholeWords image) (wordsOf image) ≡ refused k p
+      → (checkBytes image ≡ CheckRefused k p) ⊎ ((k ≡ 11) × NamesSum (wordsOf image) p)
+
+pub wish-2 : Wish2
+unfolding checkBytes
+wish-2 =
+    record {
+      variable-and-constant = variable-and-constant;
+      constant-and-variable = constant-and-variable;
+      bounded-before-bounded-now = bounded-before-bounded-now;
+      only-sums-added = only-sums-added;
+      by-rule = λ image. by-rule (wholeWords image) (wordsOf image);
+      same-answers = λ image. IndicesAdded.same-answers (wholeWords image) (wordsOf image);
+      refused-as-before = λ image. refused-as-before (wholeWords image) (wordsOf image);
     }
 
 -- ======== Document 02, wish 4

@@ -6,6 +6,7 @@ use mathlib.Core.Path.{_≡_, refl, sym, _∙_}
 use lib.Dec.{ltb, leb, eqb}
 use lib.ListN.{length, getD, set}
 use borrow.Author.Tests.{lt-leb}
+use Rattle.definitions.specs.declared.ConstantLoop.{ConstantLoop}
 use Rattle.definitions.specs.Operators.{operator, wordSort, booleanSort, unaryOperand, both, right}
 use Rattle.definitions.specs.Image.{arraySecret, typeSecret, typeSort, Expression, placeOf, Statement, Block, Procedure}
 use Rattle.definitions.specs.Image.{procedureAt}
@@ -82,7 +83,7 @@ module _ (types arrays marks : List ℕ) where
       (nil-both _ _ (good-sorts g′ k′) (nil-both _ _ (good-sorts g″ k″)
       (right-sort (sortIn types e) (sortIn types f) (placeOf f) (like-sort types k″ ∙ s′ ∙ sym (like-sort types k′))))))
 
-  pub good-labels : (bounds : List ℕ) {e f : Expression} → GoodExpression types arrays marks e → LikeExpression e f → labelFaults types arrays bounds false f ≡ []
+  pub good-labels : (bounds : List ConstantLoop) {e f : Expression} → GoodExpression types arrays marks e → LikeExpression e f → labelFaults types arrays bounds false f ≡ []
   unfolding labelFaults
   good-labels bounds good-constant like-constant = refl
   good-labels bounds (good-boolean h) like-boolean = refl
@@ -112,7 +113,7 @@ module _ (types arrays marks callee : List ℕ) where
       (good-argument-sorts gs xs)
 
   good-argument-labels :
-      (bounds : List ℕ) {k : ℕ} {es fs : List Expression} → GoodArguments types arrays marks callee k es → LikeAll es fs
+      (bounds : List ConstantLoop) {k : ℕ} {es fs : List Expression} → GoodArguments types arrays marks callee k es → LikeAll es fs
       → argumentLabelFaults types arrays bounds false callee k fs ≡ []
   unfolding argumentLabelFaults
   good-argument-labels bounds good-none like-none = refl
@@ -176,7 +177,7 @@ module _ (ps qs : List Procedure) (same : LikeProcedures ps qs) (me parameters :
     good-rcs (good-step g gs) (like-step s b) = rw (good-rc g s) (good-rcs gs b)
 
   bound-labels :
-      (marks bounds : List ℕ) {e f : Expression} → GoodExpression types arrays marks e → LikeExpression e f → secretIn types arrays e ≡ false
+      (marks : List ℕ) (bounds : List ConstantLoop) {e f : Expression} → GoodExpression types arrays marks e → LikeExpression e f → secretIn types arrays e ≡ false
       → loopBoundFaults types arrays bounds false f ≡ []
   bound-labels marks bounds {f = f} g x l = nil-both _ _ (good-labels types arrays marks bounds g x)
       (nil-both _ _ (no-fault (secretIn types arrays f) 10 (placeOf f) (like-secret types arrays x ∙ l)) refl)
@@ -189,7 +190,7 @@ module _ (ps qs : List Procedure) (same : LikeProcedures ps qs) (me parameters :
     unfolding statementLabelFaults blockLabelFaults
 
     pub good-statement-labels :
-        {marks : List ℕ} {s t : Statement} → GoodStatement ps me parameters types result arrays marks s → LikeStatement s t → (bounds : List ℕ) (p : ℕ)
+        {marks : List ℕ} {s t : Statement} → GoodStatement ps me parameters types result arrays marks s → LikeStatement s t → (bounds : List ConstantLoop) (p : ℕ)
         → statementLabelFaults 1 qs arrays types result bounds false false p t ≡ []
     good-statement-labels (good-assign {marks} {x} {e} h m g s l) (like-assign {f = f} k) bounds p =
         nil-both _ _ (flow (secretIn types arrays f) (secretIn types arrays e) (not (typeSecret (getD types x 0))) p (like-secret types arrays k) l)
@@ -213,7 +214,7 @@ module _ (ps qs : List Procedure) (same : LikeProcedures ps qs) (me parameters :
         (good-argument-labels types arrays marks (procedureAt ps f .types) bounds g es))
 
     pub good-block-labels :
-        {marks : List ℕ} {b c : Block} → GoodBlock ps me parameters types result arrays marks b → LikeBlock b c → (bounds : List ℕ)
+        {marks : List ℕ} {b c : Block} → GoodBlock ps me parameters types result arrays marks b → LikeBlock b c → (bounds : List ConstantLoop)
         → blockLabelFaults 1 qs arrays types result bounds false false c ≡ []
     good-block-labels good-done like-done bounds = refl
     good-block-labels (good-step g gs) (like-step {q = q} s b) bounds = nil-both _ _ (good-statement-labels g s bounds q) (rw (good-rc g s) (good-block-labels gs b bounds))

@@ -7,6 +7,7 @@ use native.Mathlib.Omega.{arith}
 use lib.Dec.{ltb, leb, eqb}
 use lib.ListN.{length, getD, set}
 use borrow.Author.Tests.{leb-false}
+use Rattle.definitions.specs.declared.ConstantLoop.{ConstantLoop}
 use Rattle.definitions.specs.Operators.{wordSort, booleanSort}
 use Rattle.definitions.specs.Image.{typeSecret, typeSort, Expression, variable, unary, placeOf, conditional, loop}
 use Rattle.definitions.specs.Image.{Block}
@@ -30,7 +31,7 @@ module _ (here : Setting) where
 
   -- a bound of a for
   bound-good :
-      {l : ℕ} {e : Expression} → FitsExpression l e → (marks marks′ bounds : List ℕ) (context : Bool) → Marked first (length types) marks marks′
+      {l : ℕ} {e : Expression} → FitsExpression l e → (marks marks′ : List ℕ) (bounds : List ConstantLoop) (context : Bool) → Marked first (length types) marks marks′
       → operandFaults types (length arrays) marks wordSort e ≡ [] → loopBoundFaults types arrays bounds context e ≡ []
       → GoodExpression types arrays marks e × (sortIn types e ≡ wordSort) × (secretIn types arrays e ≡ false)
   bound-good {e = e} fit marks marks′ bounds context m s l =

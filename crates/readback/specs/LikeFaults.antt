@@ -6,11 +6,12 @@ use mathlib.Core.List.{List, [], _∷_, _++_, flatMap}
 use mathlib.Core.Path.{_≡_, refl, sym}
 use lib.ListN.{length, getD, set, replicate}
 use Rattle.definitions.specs.declared.Fault.{Fault}
+use Rattle.definitions.specs.declared.ConstantLoop.{ConstantLoop}
 use Rattle.definitions.specs.Image.{Expression, Statement, Block, Procedure, Image, procedureAt, arrayLength, guarded}
 use Rattle.definitions.specs.Faults.{faultIf}
 use Rattle.definitions.specs.Sorts.{inside, ordinary, sortFaults, argumentFaults, statementSortFaults, blockSortFaults}
 use Rattle.definitions.specs.Sorts.{markBlock, procedureSortFaults, proceduresSortFaults, imageSortFaults}
-use Rattle.definitions.specs.Labels.{isConstant, constantValue, secretIn, rcAfter, rcAfterBlock, boundedIndex, labelFaults}
+use Rattle.definitions.specs.Labels.{isConstant, constantValue, secretIn, rcAfter, rcAfterBlock, boundedSum, boundedIndex, labelFaults}
 use Rattle.definitions.specs.Labels.{argumentLabelFaults, loopBoundFaults, statementLabelFaults, blockLabelFaults}
 use Rattle.definitions.specs.Labels.{unbounded, boundsInside, procedureLabelFaults, proceduresLabelFaults, imageLabelFaults}
 use Rattle.readback.specs.Like.{LikeExpression, like-constant, like-boolean, like-variable, like-cell, like-unary}
@@ -125,14 +126,25 @@ same-value (like-unary e) = refl
 same-value (like-binary e f) = refl
 same-value (like-select c e f) = refl
 
-same-bounded : (bounds : List ℕ) (size : ℕ) {e f : Expression} → LikeExpression e f → boundedIndex bounds size f ≡ boundedIndex bounds size e
+same-sum : (bounds : List ConstantLoop) (size : ℕ) {i j c d : Expression} → LikeExpression i j → LikeExpression c d
+    → boundedSum bounds size j d ≡ boundedSum bounds size i c
+unfolding boundedSum
+same-sum bounds size like-constant d = refl
+same-sum bounds size like-boolean d = refl
+same-sum bounds size like-variable d = rw (same-constant d, same-value d)
+same-sum bounds size (like-cell i) d = refl
+same-sum bounds size (like-unary e) d = refl
+same-sum bounds size (like-binary e f) d = refl
+same-sum bounds size (like-select c e f) d = refl
+
+same-bounded : (bounds : List ConstantLoop) (size : ℕ) {e f : Expression} → LikeExpression e f → boundedIndex bounds size f ≡ boundedIndex bounds size e
 unfolding boundedIndex
 same-bounded bounds size like-constant = refl
 same-bounded bounds size like-boolean = refl
 same-bounded bounds size like-variable = refl
 same-bounded bounds size (like-cell i) = refl
 same-bounded bounds size (like-unary e) = refl
-same-bounded bounds size (like-binary e f) = refl
+same-bounded bounds size (like-binary e f) = rw (same-sum bounds size e f, same-sum bounds size f e)
 same-bounded bounds size (like-select c e f) = refl
 
 module _ (types arrays : List ℕ) where
@@ -152,7 +164,7 @@ module _ (types arrays : List ℕ) where
     same-rc-block pc rc like-done = refl
     same-rc-block pc rc (like-step {s = s} x y) = rw (same-rc pc rc x) (same-rc-block pc (rcAfter types arrays pc rc s) y)
 
-  module _ (bounds : List ℕ) (context : Bool) where
+  module _ (bounds : List ConstantLoop) (context : Bool) where
     same-labels : {e f : Expression} → LikeExpression e f → SameNumbers (labelFaults types arrays bounds context e) (labelFaults types arrays bounds context f)
     unfolding labelFaults
     same-labels like-constant = same-none
@@ -181,7 +193,7 @@ module _ (form : ℕ) {ps qs : List Procedure} (alike : LikeProcedures ps qs) (a
   mutual
     unfolding statementLabelFaults blockLabelFaults
 
-    same-statement-labels : (bounds : List ℕ) (pc rc : Bool) {s t : Statement} (p q : ℕ) → LikeStatement s t
+    same-statement-labels : (bounds : List ConstantLoop) (pc rc : Bool) {s t : Statement} (p q : ℕ) → LikeStatement s t
         → SameNumbers (statementLabelFaults form ps arrays types result bounds pc rc p s) (statementLabelFaults form qs arrays types result bounds pc rc q t)
     same-statement-labels bounds pc rc p q (like-assign e) =
         let x = same-labels types arrays bounds (pc || rc) e in rw (like-secret types arrays e) (search same)
@@ -197,14 +209,14 @@ module _ (form : ℕ) {ps qs : List Procedure} (alike : LikeProcedures ps qs) (a
         let x = same-bound-labels types arrays bounds (pc || rc) k in
         let y = same-bound-labels types arrays bounds (pc || rc) l in
         let z = same-block-labels (boundsInside bounds v f t) pc (rcAfterBlock types arrays pc rc b) m in
-        same-append x (same-append y (rw (same-constant k, same-constant l, same-value l, same-rc-block types arrays pc rc m) z))
+        same-append x (same-append y (rw (same-constant k, same-constant l, same-value k, same-value l, same-rc-block types arrays pc rc m) z))
     same-statement-labels bounds pc rc p q (like-return e) =
         let x = same-labels types arrays bounds (pc || rc) e in rw (like-secret types arrays e) (search same)
     same-statement-labels bounds pc rc p q (like-call {f = f} es) =
         let x = same-argument-labels types arrays bounds (pc || rc) (procedureAt ps f .types) 0 es in
         rw (sym (like-at alike f .results), sym (like-at alike f .types), sym (like-at alike f .modes)) (search same)
 
-    same-block-labels : (bounds : List ℕ) (pc rc : Bool) {b c : Block} → LikeBlock b c
+    same-block-labels : (bounds : List ConstantLoop) (pc rc : Bool) {b c : Block} → LikeBlock b c
         → SameNumbers (blockLabelFaults form ps arrays types result bounds pc rc b) (blockLabelFaults form qs arrays types result bounds pc rc c)
     same-block-labels bounds pc rc like-done = same-none
     same-block-labels bounds pc rc (like-step {p} {q} {s} x y) =

@@ -9,6 +9,7 @@ use lib.Dec.{leb, eqb}
 use lib.ListN.{length, getD, length-append}
 use borrow.Author.Tests.{leb-false, not-false, eq-eqb}
 use Rattle.definitions.specs.Choice.{pick}
+use Rattle.definitions.specs.declared.ConstantLoop.{ConstantLoop}
 use Rattle.definitions.specs.Operators.{booleanSort}
 use Rattle.definitions.specs.Image.{typeSecret, typeSort, Expression, boolean, variable, select, placeOf, call}
 use Rattle.definitions.specs.Image.{Procedure, guarded, procedureAt}
@@ -49,7 +50,7 @@ module _ (here : Setting) where
   open Setting here using (ps, ps′, arrays, types, types′, me, first, rv, typed, callee)
 
   arguments-good :
-      {l : ℕ} {es : List Expression} → FitsAll l es → (marks marks′ bounds : List ℕ) (context : Bool) → Marked first (length types) marks marks′ → (q q′ : Procedure) → Callee q q′
+      {l : ℕ} {es : List Expression} → FitsAll l es → (marks marks′ : List ℕ) (bounds : List ConstantLoop) (context : Bool) → Marked first (length types) marks marks′ → (q q′ : Procedure) → Callee q q′
       → (k : ℕ) → k + length es ≡ q .parameters → argumentFaults types (length arrays) marks (q .types) k es ≡ []
       → argumentLabelFaults types arrays bounds context (q .types) k es ≡ []
       → (extra : List Expression) → GoodArguments types′ arrays marks′ (q′ .types) (q .parameters) extra

@@ -8,6 +8,7 @@ use native.Mathlib.Omega.{arith}
 use lib.Dec.{ltb, eqb}
 use lib.ListN.{length, getD}
 use borrow.Author.Tests.{lt-ltb, eqb-true}
+use Rattle.definitions.specs.declared.ConstantLoop.{ConstantLoop}
 use Rattle.definitions.specs.Operators.{booleanSort}
 use Rattle.definitions.specs.Image.{typeSecret, typeSort, Expression, variable, select, placeOf, Statement, assign}
 use Rattle.definitions.specs.Image.{store, conditional, loop, return, call, Block, done, sequence, Procedure, guarded}
@@ -176,7 +177,7 @@ module _ (here : Setting) where
 
     -- an operand that has no fault
     pub operand-good :
-        {l : ℕ} {e : Expression} → FitsExpression l e → (bounds : List ℕ) (context : Bool) (want : ℕ) → eqb want noSort ≡ false
+        {l : ℕ} {e : Expression} → FitsExpression l e → (bounds : List ConstantLoop) (context : Bool) (want : ℕ) → eqb want noSort ≡ false
         → operandFaults types (length arrays) marks want e ≡ [] → labelFaults types arrays bounds context e ≡ [] → GoodExpression types arrays marks e × (sortIn types e ≡ want)
     operand-good {e = e} fit bounds context want k s l =
         let g = source-good types arrays marks fit bounds context (nil-left (sortFaults types (length arrays) marks e) _ s) l in (
@@ -198,14 +199,14 @@ module _ (here : Setting) where
   -- the types of the statement lemmas
   abbrev pub StatementGood : Statement → Type 0
   StatementGood s =
-      (pc : Bool) (arm : ℕ) (rc : Bool) (k end : ℕ) (marks marks′ bounds : List ℕ) (p : ℕ) → Marked first (length types) marks marks′
+      (pc : Bool) (arm : ℕ) (rc : Bool) (k end : ℕ) (marks marks′ : List ℕ) (bounds : List ConstantLoop) (p : ℕ) → Marked first (length types) marks marks′
       → (pc ≡ true → Slot arm secretBoolean) → (rcAfter types arrays pc rc s ≡ true → Deferred) → rv ≤ k → On types′ k (temporaries ps arrays types pc rc s) end
       → statementSortFaults ps parameters types result (length arrays) marks p s ≡ [] → statementLabelFaults form ps arrays types result bounds pc rc p s ≡ []
       → Good′ marks′ (compiledStatement ps arrays types first rv s pc arm rc k)
 
   abbrev pub BlockGood : Block → Type 0
   BlockGood b =
-      (pc : Bool) (arm : ℕ) (rc : Bool) (k end : ℕ) (marks marks′ bounds : List ℕ) → Marked first (length types) marks marks′
+      (pc : Bool) (arm : ℕ) (rc : Bool) (k end : ℕ) (marks marks′ : List ℕ) (bounds : List ConstantLoop) → Marked first (length types) marks marks′
       → (pc ≡ true → Slot arm secretBoolean) → (rcAfterBlock types arrays pc rc b ≡ true → Deferred) → rv ≤ k → On types′ k (blockTemporaries ps arrays types pc rc b) end
       → blockSortFaults ps parameters types result (length arrays) marks b ≡ [] → blockLabelFaults form ps arrays types result bounds pc rc b ≡ []
       → Good′ marks′ (compiledBlock ps arrays types first rv b pc arm rc k)

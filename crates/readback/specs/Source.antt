@@ -7,6 +7,7 @@ use native.Mathlib.Omega.{arith}
 use lib.Dec.{leb, eqb}
 use lib.ListN.{length, getD}
 use borrow.Author.Tests.{lt-ltb, leb-false, ne-eqb, not-true}
+use Rattle.definitions.specs.declared.ConstantLoop.{ConstantLoop}
 use Rattle.definitions.specs.Operators.{Row, row, operators, operator, wordSort, booleanSort, neither, unaryOperand}
 use Rattle.definitions.specs.Operators.{unaryResult, both, right}
 use Rattle.definitions.specs.Image.{typeSort, Expression, placeOf}
@@ -69,7 +70,7 @@ module _ (types arrays marks : List ℕ) where
 
   -- an expression that fits and has no fault is good
   pub source-good :
-      {l : ℕ} {e : Expression} → FitsExpression l e → (bounds : List ℕ) (context : Bool) → sortFaults types (length arrays) marks e ≡ []
+      {l : ℕ} {e : Expression} → FitsExpression l e → (bounds : List ConstantLoop) (context : Bool) → sortFaults types (length arrays) marks e ≡ []
       → labelFaults types arrays bounds context e ≡ [] → GoodExpression types arrays marks e
   unfolding sortFaults labelFaults
   source-good fit-constant bounds context s l = good-constant

@@ -115,14 +115,14 @@ not-before {a} {f} (sameWord n e h) =
 
 -- the least of faults that have numbers is the lowest
 module _ (fs : List Fault) (numbered : (f : Fault) → Among f fs → f .number ≡ 0 → ⊥) where
-  least-lowest : (least noFault fs .number ≡ 0 → ⊥) → Lowest (least noFault fs) fs
+  pub least-lowest : (least noFault fs .number ≡ 0 → ⊥) → Lowest (least noFault fs) fs
   least-lowest n = go (least-among fs noFault)
     where
       go : (least noFault fs ≡ noFault) ⊎ Among (least noFault fs) fs → Lowest (least noFault fs) fs
       go (inl e) = absurd (n (ap (λ (f : Fault). f .number) e))
       go (inr m) = record { listed = m; none-before = λ g h. not-before (least-low fs noFault g h) }
 
-  lowest-least : (f : Fault) → Lowest f fs → least noFault fs ≡ f
+  pub lowest-least : (f : Fault) → Lowest f fs → least noFault fs ≡ f
   lowest-least f l = go (least-among fs noFault) (least-low fs noFault f (l .listed))
     where
       found : least noFault fs .number ≡ 0 → ⊥
@@ -155,7 +155,7 @@ module _ (fs : List Fault) (numbered : (f : Fault) → Among f fs → f .number 
       go (inl e) a = absurd (found (ap (λ (f : Fault). f .number) e))
       go (inr m) a = same (least noFault fs) (l .none-before (least noFault fs) m) a
 
-none-listed : (fs : List Fault) → ((f : Fault) → Among f fs → f .number ≡ 0 → ⊥) → least noFault fs .number ≡ 0 → fs ≡ []
+pub none-listed : (fs : List Fault) → ((f : Fault) → Among f fs → f .number ≡ 0 → ⊥) → least noFault fs .number ≡ 0 → fs ≡ []
 none-listed [] n e = refl
 none-listed (f ∷ fs) n e = absurd (least-found (f ∷ fs) f here (n f here) e)
 

@@ -10,6 +10,8 @@ pub mod Written
 pub mod SideBySide
 pub mod MoreWords
 pub mod ByOperators
+pub mod ByIndexRule
+pub mod IndicesAdded
 pub mod TwoRuns
 pub mod TwoCalls
 pub mod StoppedExactly

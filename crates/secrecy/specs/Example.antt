@@ -66,7 +66,7 @@ unfolding wordsOf bytesOf lent headerWord arrayWord procedureWord typeWord block
     Reading.readProcedures Reading.readArrays Reading.readRest Reading.readImage Reading.readStatement Reading.readBlock least Sorts.sortIn
     Sorts.sortFaults Sorts.argumentFaults Sorts.procedureSortFaults Sorts.proceduresSortFaults Sorts.imageSortFaults Sorts.markStatement
     Sorts.markBlock Sorts.statementSortFaults Sorts.blockSortFaults Labels.secretIn Labels.isConstant Labels.constantValue
-    Labels.boundedIndex Labels.labelFaults Labels.argumentLabelFaults Labels.procedureLabelFaults Labels.proceduresLabelFaults
+    Labels.boundedSum Labels.boundedIndex Labels.labelFaults Labels.argumentLabelFaults Labels.procedureLabelFaults Labels.proceduresLabelFaults
     Labels.imageLabelFaults Labels.rcAfter Labels.rcAfterBlock Labels.statementLabelFaults Labels.blockLabelFaults faultOf applyBinary
     applyUnary Running.emit Running.inArray Running.indexAt Running.divided Running.shifted Running.operated Running.evaluate Running.evaluateAll
     Running.tick Running.passes Running.taken Running.received Running.frame Running.finish Running.runProcedure Running.runStatement

@@ -11,6 +11,7 @@ use lib.Dec.{eqb, ltb}
 use lib.ListN.{length, getD}
 use borrow.Author.Tests.{ltb-true}
 use Rattle.definitions.specs.Choice.{pick}
+use Rattle.definitions.specs.declared.ConstantLoop.{ConstantLoop}
 use Rattle.definitions.specs.Operators.{divides, shifts, applyBinary, applyUnary}
 use Rattle.definitions.specs.Image.{arraySecret, arrayLength, typeSecret, baseOf, Expression, constant, boolean}
 use Rattle.definitions.specs.Image.{variable, cell, unary, binary, select}
@@ -58,7 +59,7 @@ same-operated {T} C p o v w x y t s r e f d c = by-test (divides o) (shifts o) d
         rw count (on-bind (itself (emit C 9 p y t)) λ i j u q. values {a = applyBinary o v y} {b = applyBinary o x y} (rw count at same-result))
     by-test false false k l = values {a = applyBinary o v w} {b = applyBinary o x y} same-result
 
-module _ {T : Type 0} (C : Trace T) (arrays types bounds : List ℕ) (context : Bool) {n m : ℕ} {vs us cs ds : List ℕ}
+module _ {T : Type 0} (C : Trace T) (arrays types : List ℕ) (bounds : List ConstantLoop) (context : Bool) {n m : ℕ} {vs us cs ds : List ℕ}
     (hv : Agree n (variableSecret types) vs us) (hc : Agree m (cellSecret arrays) cs ds) where
   pub same-evaluate : (e : Expression) → (labelFaults types arrays bounds context e ≡ []) → (t : T)
       → Evaluations (λ v w. secretIn types arrays e ≡ false → v ≡ w) (evaluate C arrays e vs cs t) (evaluate C arrays e us ds t)

@@ -6,6 +6,7 @@ use mathlib.Core.List.{List, _∷_, []}
 use Prim.Native.Nat.{ℕ, _+_}
 use lib.Dec.{eqb, leb}
 use lib.ListN.{getD}
+use Rattle.definitions.specs.declared.ConstantLoop.{ConstantLoop}
 use Rattle.definitions.specs.Operators.{operator, both, right, divides, shifts}
 use Rattle.definitions.specs.Image.{arraySecret, typeSecret, Expression, cell, binary, select, placeOf, Statement}
 use Rattle.definitions.specs.Image.{assign, store, conditional, loop, return, call, Block, sequence, Procedure}
@@ -39,7 +40,7 @@ both-tests : (a s : Bool) → a ≡ true → (a && s) ≡ false → s ≡ false
 both-tests true s e h = h
 both-tests false s e h = absurd (false≢true e)
 
-module _ (types arrays bounds : List ℕ) (context : Bool) where
+module _ (types arrays : List ℕ) (bounds : List ConstantLoop) (context : Bool) where
   -- an index is public
   pub cell-rules : (p a : ℕ) (i : Expression) → (labelFaults types arrays bounds context (cell p a i) ≡ [])
       → (labelFaults types arrays bounds context i ≡ []) × (secretIn types arrays i ≡ false)
@@ -97,7 +98,7 @@ module _ (types arrays bounds : List ℕ) (context : Bool) where
       (search nil-left, kept (secretIn types arrays e) 10 (placeOf e) k)
 
 -- The statements, in an image of the given form, at a place with the given bounds, pc and rc.
-module _ (form : ℕ) (ps : List Procedure) (arrays types : List ℕ) (result : ℕ) (bounds : List ℕ) (pc rc : Bool) (p : ℕ) where
+module _ (form : ℕ) (ps : List Procedure) (arrays types : List ℕ) (result : ℕ) (bounds : List ConstantLoop) (pc rc : Bool) (p : ℕ) where
   pub assign-rules : (x : ℕ) (e : Expression)
       → (statementLabelFaults form ps arrays types result bounds pc rc p (assign x e) ≡ [])
       → (typeSecret (getD types x 0) ≡ false → secretIn types arrays e ≡ false) × (labelFaults types arrays bounds (pc || rc) e ≡ [])

@@ -9,6 +9,7 @@ use native.Mathlib.Nat.{zero-add}
 use lib.Dec.{eqb}
 use lib.ListN.{length, set}
 use Rattle.definitions.specs.Choice.{pick}
+use Rattle.definitions.specs.declared.ConstantLoop.{ConstantLoop}
 use Rattle.definitions.specs.Arithmetic.{truth}
 use Rattle.definitions.specs.Image.{typeSecret, baseOf, Expression, Statement, assign, store, conditional, loop, return}
 use Rattle.definitions.specs.Image.{call, Block, done, sequence, Procedure, procedureAt}
@@ -85,12 +86,12 @@ module _ {T : Type 0} (C : Trace T) (budget form : ℕ) (ps : List Procedure) (a
   -- what is shown of a statement, and of a block
   abbrev SameStatement : Statement → Type 0
   SameStatement s =
-      (bounds : List ℕ) (pc rc : Bool) (l : ℕ) → (statementLabelFaults form ps arrays types result bounds pc rc l s ≡ [])
+      (bounds : List ConstantLoop) (pc rc : Bool) (l : ℕ) → (statementLabelFaults form ps arrays types result bounds pc rc l s ≡ [])
       → Keeps n m arrays types result (runStatement C budget arrays K l s)
 
   abbrev SameBlock : Block → Type 0
   SameBlock b =
-      (bounds : List ℕ) (pc rc : Bool) → (blockLabelFaults form ps arrays types result bounds pc rc b ≡ [])
+      (bounds : List ConstantLoop) (pc rc : Bool) → (blockLabelFaults form ps arrays types result bounds pc rc b ≡ [])
       → Keeps n m arrays types result (runBlock C budget arrays K b)
 
   same-assign : (x : ℕ) (e : Expression) → SameStatement (assign x e)

@@ -11,11 +11,9 @@ use Rattle.definitions.specs.Image.{formOf, arraysOf, proceduresOf, headerWord,
 use Rattle.definitions.specs.Image.{procedureWord, typeWord, Procedure, Image}
 use Rattle.definitions.specs.Encoding.{imageWords}
 use Rattle.definitions.specs.Reading.{Parse, got, refused, andThen, onWord, readBlock, readTypes, readArrays}
-use Rattle.definitions.specs.Checking.{withoutFault, verdict, checked}
-use Rattle.definitions.specs.Compiling.{compiledTree, compiled}
-use Rattle.definitions.specs.Describing.{describedTree, described}
-use Rattle.definitions.specs.Requests.{withCells, readyToLoad}
+use Rattle.definitions.specs.Checking.{withoutFault}
 use Rattle.statements.specs.Limits.{FitsImage}
+use Rattle.statements.specs.FormerAnswers.{AnswersAs}
 
 -- `readProcedure` to `readImage`, with the largest level by form as it is given
 module _ (largest : ℕ → ℕ) where
@@ -72,10 +70,6 @@ pub record WithinLimits (whole : Bool) (words : List ℕ) (tree : Image) : Type 
   pub limits : FitsImage tree
   pub short : length words ≤ largestImage (tree .form)
 
--- The answers that an image has by today's limits are those that it had by the former ones. A request on cells (load, clear, poke, peek, call,
--- preview) looks at an image in `readyToLoad` alone.
-pub record SameAnswers (whole : Bool) (image : List ℕ) : Type 0 where
-  pub checks : checked whole image ≡ verdict (withoutFault (formerReadImage whole image))
-  pub compiles : (out : List ℕ) → compiled whole image out ≡ compiledTree (withoutFault (formerReadImage whole image)) out
-  pub describes : (out : List ℕ) → described whole image out ≡ describedTree (withoutFault (formerReadImage whole image)) out
-  pub readies : (count : ℕ) → readyToLoad whole image count ≡ withCells (withoutFault (formerReadImage whole image)) count
+-- The answers that an image has by today's limits are those that it had by the former ones.
+abbrev pub SameAnswers : Bool → List ℕ → Type 0
+SameAnswers whole image = AnswersAs (withoutFault (formerReadImage whole image)) whole image

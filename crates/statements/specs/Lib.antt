@@ -1,4 +1,6 @@
+pub mod FormerAnswers
 pub mod FormerLimits
 pub mod FormerTraces
+pub mod FormerIndices
 pub mod Limits
 pub mod Statements

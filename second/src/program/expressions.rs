@@ -1,6 +1,6 @@
 //! Expressions of a random program.
 
-use super::{Slip, Spot, Writer};
+use super::{OpenLoop, Slip, Spot, Writer};
 use crate::image::Label;
 use crate::operators::{Binary, Sort, Unary};
 use crate::words;
@@ -188,6 +188,9 @@ impl Writer<'_> {
     /// An index that a secret context allows, or a public word that is mostly
     /// inside the array.
     pub(super) fn index(&mut self, length: u32, spot: Spot) -> Label {
+        if self.random.chance(20) && self.loop_sum(length, spot) {
+            return Label::Public;
+        }
         if self.random.chance(45) && self.loop_index(length) {
             return Label::Public;
         }
@@ -219,12 +222,46 @@ impl Writer<'_> {
         let fitting: Vec<u32> = self
             .open_loops
             .iter()
-            .filter(|open| any || open.bound.is_some_and(|bound| bound <= length))
+            .filter(|open| any || open.fits(length))
             .map(|open| open.variable)
             .collect();
         let Some(variable) = self.random.pick(&fitting) else { return false };
         self.push(words::VARIABLE, variable);
         true
+    }
+
+    /// Such a variable plus a constant that keeps the sum inside the array; by
+    /// a slip a constant of one more, or another operator.
+    fn loop_sum(&mut self, length: u32, spot: Spot) -> bool {
+        if spot.level >= self.max_level() {
+            return false;
+        }
+        let any = self.slips(Slip::Unbounded);
+        let fits = |open: &OpenLoop| any || open.most_added(length).is_some();
+        let fitting: Vec<OpenLoop> = self.open_loops.iter().copied().filter(fits).collect();
+        let Some(open) = self.random.pick(&fitting) else { return false };
+        let constant = match open.most_added(length) {
+            Some(most) if any => most.wrapping_add(self.random.below(2)),
+            Some(u32::MAX) | None => self.random.word(),
+            Some(most) if self.random.chance(50) => most,
+            Some(most) => self.random.below(most),
+        };
+        let operator = if any { self.random.below(3) } else { Binary::Add as u32 };
+        self.push(words::BINARY, operator);
+        self.variable_and_constant(open.variable, constant);
+        true
+    }
+
+    /// Two operands, in either order.
+    fn variable_and_constant(&mut self, variable: u32, constant: u32) {
+        let constant_first = self.random.chance(50);
+        if constant_first {
+            words::push_constant(&mut self.output, constant);
+        }
+        self.push(words::VARIABLE, variable);
+        if !constant_first {
+            words::push_constant(&mut self.output, constant);
+        }
     }
 
     /// A variable or a constant.

@@ -163,7 +163,7 @@ impl Writer<'_> {
     fn repeat(&mut self, spot: Spot) -> Option<Label> {
         let variable = self.loop_variable()?;
         self.output.push(words::statement(words::FOR, variable));
-        let bound = self.bounds(spot.below());
+        let bounds = self.bounds(spot.below());
         let mut inner = spot.below();
         if spot.rc == Label::Public {
             inner.may_defer = spot.may_defer && self.random.chance(50);
@@ -171,7 +171,7 @@ impl Writer<'_> {
             inner.rc = if ready { Label::Secret } else { Label::Public };
         }
         let deferred_before = self.deferred;
-        self.open_loops.push(OpenLoop { variable, bound });
+        self.open_loops.push(OpenLoop { variable, bounds });
         let size = self.random.between(1, 4);
         self.block(inner, size);
         self.open_loops.pop();
@@ -192,8 +192,8 @@ impl Writer<'_> {
         self.random.pick(&free)
     }
 
-    /// Writes both bounds; answers the upper one if both are constants.
-    fn bounds(&mut self, spot: Spot) -> Option<u32> {
+    /// Writes both bounds; answers them if both are constants.
+    fn bounds(&mut self, spot: Spot) -> Option<(u32, u32)> {
         let open = !spot.is_secret() || self.slips(Slip::Unbounded);
         if open && spot.level < self.max_level() && self.random.chance(30) {
             return self.open_bounds(spot);
@@ -201,12 +201,12 @@ impl Writer<'_> {
         let (from, to) = self.constant_bounds();
         words::push_constant(&mut self.output, from);
         words::push_constant(&mut self.output, to);
-        Some(to)
+        Some((from, to))
     }
 
     /// Bounds of which one or both are no constants. The answer is None, but
     /// by a slip a constant upper bound counts although the lower is open.
-    fn open_bounds(&mut self, spot: Spot) -> Option<u32> {
+    fn open_bounds(&mut self, spot: Spot) -> Option<(u32, u32)> {
         let choices = [(true, true), (true, false), (true, false), (false, true)];
         let (from_open, to_open) = self.random.pick(&choices).unwrap_or((true, true));
         if from_open {
@@ -220,7 +220,7 @@ impl Writer<'_> {
         }
         let to = self.constant_bounds().1;
         words::push_constant(&mut self.output, to);
-        self.slips(Slip::Unbounded).then_some(to)
+        self.slips(Slip::Unbounded).then_some((0, to))
     }
 
     /// Mostly a few passes, and often just the length of an array.

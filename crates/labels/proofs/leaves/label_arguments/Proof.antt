@@ -9,6 +9,7 @@ use Rattle.image_words.specs.Read.{argumentsAt}
 use Rattle.tables.specs.Table.{arraysIn, paramsIn}
 use Rattle.tables.specs.Looking.{procedureIn}
 use Rattle.image_words.specs.Rest.{next-argument}
+use Rattle.labels.specs.Enclosing.{boundsIn}
 use Rattle.labels.specs.Walk.{arguedAll}
 use Rattle.labels.proofs.LeafRules.{arguments-done, arguments-again, arguments-more}
 use borrow.Author.Needs.{needs}
@@ -17,8 +18,8 @@ use Rattle.labels.proofs.leaves.label_arguments.Tie as tie
 
 abbrev Inv-loop : tie.InvT-loop
 Inv-loop image table types bounds context f at level count k₀ a₀ found₀ k a found =
-    (k ≤ count) × (ok (argumentsAt (count - k) level image a) ≡ true) × (arguedAll types (arraysIn table) bounds context
-    (procedureIn image f .types) k found (argumentsAt (count - k) level image a) ≡ arguedAll types (arraysIn table) bounds context
+    (k ≤ count) × (ok (argumentsAt (count - k) level image a) ≡ true) × (arguedAll types (arraysIn table) (boundsIn bounds) context
+    (procedureIn image f .types) k found (argumentsAt (count - k) level image a) ≡ arguedAll types (arraysIn table) (boundsIn bounds) context
     (procedureIn image f .types) 0 found₀ (argumentsAt (getD (paramsIn table) f 0) level image at))
 
 abbrev μ-loop : tie.MeasureT-loop

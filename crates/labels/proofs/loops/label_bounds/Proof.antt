@@ -8,7 +8,10 @@ pub label-bounds-spec : {M : Type 1} → statement M
 label-bounds-spec = let answers = tie.spec
     (λ c κs. search needs)  -- label-bound-requires
     (λ c κs. search (to-fine, needs))  -- label-bound-requires-2
-    -- bound-inside-requires
-    (λ c κs. to-fine _ _ _ _ _ _ _ _ _ (c .before .before .before .before .pre) (c .before .label-bound .ensures) .within)
+    -- loop-inside-requires
+    (λ c κs. (
+      c .before .before .before .before .pre .first .within,
+      to-fine _ _ _ _ _ _ _ _ _ (c .before .before .before .before .pre) (c .before .label-bound .ensures) .within,
+    ))
     (λ c. search (bounds-labelled, needs))  -- returns
     in tie.close answers

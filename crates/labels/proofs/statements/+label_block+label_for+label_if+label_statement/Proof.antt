@@ -12,6 +12,7 @@ use Rattle.image_words.specs.StatementParts.{read-if, read-bounds, is-call}
 use Rattle.tables.specs.Table.{arraysIn, paramsIn}
 use Rattle.faults.specs.Parts.{put-back}
 use Rattle.image_words.specs.Rest.{block-ready, block-begins, next-statement}
+use Rattle.labels.specs.Enclosing.{boundsIn}
 use Rattle.labels.specs.Blocks.{walkedBlock}
 use Rattle.labels.proofs.StatementRules.{then-fine, else-fine, walk-if, body-fine, walk-for, block-done}
 use Rattle.labels.proofs.StatementRules.{block-more, block-again}
@@ -32,12 +33,11 @@ use Rattle.labels.proofs.statements.label_statement.Kinds as label-stat
 use Rattle.labels.proofs.statements.+label_block+label_for+label_if+label_statement.Lts-label_statement as label-statement-lts
 use Rattle.contexts.proofs.rc_block.Reads as rc-block-reads
 use Rattle.faults.proofs.note.Reads as note-reads
-use Rattle.image_words.proofs.lists.element.Reads as element-reads
-use Rattle.image_words.proofs.lists.put.Reads as put-reads
-use Rattle.image_words.proofs.lists.wide.Reads as wide-reads
 use Rattle.image_words.proofs.op.Reads as op-reads
 use Rattle.image_words.proofs.payload.Reads as payload-reads
 use Rattle.image_words.proofs.target.Reads as target-reads
+use Rattle.labels.proofs.enclosing.loop_around.Reads as loop-around-reads
+use Rattle.labels.proofs.enclosing.put_loop.Reads as put-loop-reads
 use Rattle.labels.proofs.expressions.label_expression.Reads as label-expression-reads
 use Rattle.labels.proofs.leaves.label_assign.Reads as label-assign-reads
 use Rattle.labels.proofs.leaves.label_call.Reads as label-call-reads
@@ -87,10 +87,12 @@ label-statement-below t =
 
 abbrev label-block-Inv-loop : label-block-lts.InvT-loop
 label-block-Inv-loop image table types bounds₀ scope context at level count j₀ a₀ r₀ found₀ bounds j a r found =
-    (j ≤ count) × (bounds ≡ bounds₀) × (ok (statementsAt (count - j) (level - 1) (paramsIn table) (scope .me) image a) ≡ true) ×
-    (walkedBlock (proceduresIn image) (arraysIn table) types bounds scope (context .pc) r found (statementsAt (count - j) (level -
-    1) (paramsIn table) (scope .me) image a) ≡ walkedBlock (proceduresIn image) (arraysIn table) types bounds₀ scope (context .pc)
-    (context .rc) found₀ (readBlock level (paramsIn table) (scope .me) image at))
+    (j ≤ count) × (boundsIn bounds ≡ boundsIn bounds₀)
+    × (ok (statementsAt (count - j) (level - 1) (paramsIn table) (scope .me) image a) ≡ true)
+    × (walkedBlock (proceduresIn image) (arraysIn table) types (boundsIn bounds) scope (context .pc) r found
+    (statementsAt (count - j) (level - 1) (paramsIn table) (scope .me) image a)
+    ≡ walkedBlock (proceduresIn image) (arraysIn table) types (boundsIn bounds₀) scope (context .pc) (context .rc) found₀
+    (readBlock level (paramsIn table) (scope .me) image at))
 
 abbrev label-block-μ-loop : label-block-lts.MeasureT-loop
 label-block-μ-loop image table types bounds₀ scope context at level count j₀ a₀ r₀ found₀ bounds j a r found =
@@ -108,12 +110,10 @@ label-for-callees t = (
   label-bounds-reads.Learnt,
   rc-block-reads.Asked,
   rc-block-reads.Learnt,
-  wide-reads.Asked,
-  wide-reads.Learnt,
-  element-reads.Asked,
-  element-reads.Learnt,
-  put-reads.Asked,
-  put-reads.Learnt,
+  loop-around-reads.Asked,
+  loop-around-reads.Learnt,
+  put-loop-reads.Asked,
+  put-loop-reads.Learnt,
   label-block-below t,
   label-block.Post,
 )
@@ -157,8 +157,8 @@ label-block-answers t = label-block-lts.spec (label-block-callees t) (label-bloc
       block-ready _ _ _ _ _ (c .before .before .before .before .pre .1 .0 .read) _ (c .payload .ensures
           .0),
       ap (λ z. walkedBlock (proceduresIn (c .before .before .before .before .args .image .now)) (arraysIn (c .before .before
-          .before .before .args .table .now)) (c .before .before .before .before .args .types .now) (c .before .before .before .before
-          .args .bounds .now) (c .before .before .before .before .args .scope) (c .before .before .before .before .args .context .pc)
+          .before .before .args .table .now)) (c .before .before .before .before .args .types .now) (boundsIn (c .before .before .before .before
+          .args .bounds .now)) (c .before .before .before .before .args .scope) (c .before .before .before .before .args .context .pc)
           (c .before .before .before .before .args .context .rc) (c .before .before .before .before .args .best) z) (block-begins _ _
           _ _ _ (c .before .before .before .before .pre .1 .0 .read) _ (c .payload .ensures .0)),
     ))
@@ -183,35 +183,28 @@ label-for-answers t = label-for-lts.spec (label-for-callees t) (label-for-at t) 
     -- rc-block-requires
     (λ c κs. let pre· = c .before .before .before .before .before .before .before .pre .1 in body-fine _ _ _ _ _ _ _ _ _ _ (pre· .0
     .read) (pre· .1) _ (c .label-bounds .ensures))
-    (λ c κs. search needs) (λ c κs. search needs) (λ c κs. search needs)  -- wide-requires, element-requires, put-requires
+    (λ c κs. search needs) (λ c κs. search needs)  -- loop-around-requires, put-loop-requires
     -- label-block-requires
-    (λ c κs. let pre· = c .before .before .before .before .before .before .before .before .before .before .before .before .before
-    .before .before .pre .1 in (
+    (λ c κs. let pre· = c .before .before .before .before .before .before .before .before .before .before .before .before .before .before .pre in (
       omega (
         arith,
-        c .before .before .before .before .before .before .before .before .before .before
-            .before .before .before .before .before .pre .0,
-        pre· .0 .deep,
+        pre· .0,
+        pre· .1 .0 .deep,
       ),
       (
-        body-fine _ _ _ _ _ _ _ _ _ _ (pre· .0 .read) (pre· .1) _
-            (c .before .before .before .before .before .before .before .before .label-bounds .ensures),
-        pre· .2,
+        body-fine _ _ _ _ _ _ _ _ _ _ (pre· .1 .0 .read) (pre· .1 .1) _ (c .before .before .before .before .before .before .before .label-bounds .ensures),
+        pre· .1 .2,
       ),
     ))
-    (λ c κs. search needs)  -- put-requires-2
+    (λ c κs. search needs)  -- put-loop-requires-2
     -- returns
-    (λ c. let pre· = c .before .before .before .before .before .before .before .before .before .before .before .before .before
-    .before .before .before .before .before .before .pre .1 in let put· = c .before .before .before .before .before .put in let
-    label-block· = c .before .before .before .label-block in (
-      walk-for _ _ _ _ _ _ _ _ _ _ _ _ _ (pre· .0 .read) _ _ _ _ _ _
-          (pre· .1) (c .before .before .before .before .before .before .before .before .before .before .before .before .before .before
-          .before .target .ensures .0) (c .before .before .before .before .before .before .before .before .before .before .before
-          .before .label-bounds .ensures) (c .before .before .before .before .before .before .before .before .before .before .before
-          .rc-block .ensures) (c .before .before .before .before .before .before .before .before .before .before .wide .ensures .0)
-          (put· .ensures) (label-block· .ensures .0),
-      put-back _ _ _ _ _ _ _ (c .before .before .before .before .before .before
-          .before .element .ensures) (put· .ensures) (label-block· .ensures .1) (c .before .put2 .ensures),
+    (λ c. let pre· = c .before .before .before .before .before .before .before .before .before .before .before .before .before .before .before .before .before .before
+    .pre .1 in let put· = c .before .before .before .before .before .put-loop in let label-block· = c .before .before .before .label-block in (
+      walk-for _ _ _ _ _ _ _ _ _ _ _ _ _ (pre· .0 .read) _ _ _ _ _ (pre· .1) (c .before .before .before .before .before .before .before .before .before .before .before .before .before .before
+          .target .ensures .0) (c .before .before .before .before .before .before .before .before .before .before .before .label-bounds .ensures)
+          (c .before .before .before .before .before .before .before .before .before .before .rc-block .ensures) (put· .ensures) (label-block· .ensures .0),
+      put-back _ _ _ _ _ _ _ _ (c .before .before .before .before .before .before .before .loop-around .ensures) (put· .ensures)
+          (label-block· .ensures .1) (c .before .put-loop2 .ensures),
     ))
 
 label-if-answers : {M : Type 1} (t : ℕ) → label-if-lts.Closed (label-if-callees t) (label-if-at t) label-if.Post M

@@ -211,7 +211,7 @@ check-for-answers t = check-for-lts.spec (check-for-callees t) (check-for-at t) 
           .before .before .before .before .before .before .wide .ensures .0) (c .before .before .before .before .before .before
           .before .before .before .before .before .before .before .before .note-loop .ensures) (put· .ensures) (c .before .before
           .check-block .ensures .0),
-      put-back _ _ _ _ _ _ _ (c .before .before .before .before .before .before .element .ensures)
+      put-back _ _ _ _ _ _ _ _ (c .before .before .before .before .before .before .element .ensures)
           (put· .ensures) (c .before .before .check-block .ensures .1) (c .put2 .ensures),
     ))
 
