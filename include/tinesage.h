@@ -40,9 +40,9 @@ extern "C" {
 
 /* The version of this interface. A new major number may break a host, a new minor number adds. */
 #define TINESAGE_VERSION_MAJOR 2
-#define TINESAGE_VERSION_MINOR 2
+#define TINESAGE_VERSION_MINOR 3
 #define TINESAGE_VERSION_PATCH 0
-#define TINESAGE_VERSION "2.2.0"
+#define TINESAGE_VERSION "2.3.0"
 
 /* ---- sizes ---- */
 
@@ -91,7 +91,7 @@ enum tinesage_refusal {
     TINESAGE_REFUSAL_SECRET_BRANCH = 13,     /* a secret condition in compiled form */
     /* the compiler */
     TINESAGE_REFUSAL_ALREADY_COMPILED = 14,
-    TINESAGE_REFUSAL_RESULT_TOO_LARGE = 15, /* the result passes the limits of the compiled form */
+    TINESAGE_REFUSAL_RESULT_TOO_LARGE = 15, /* the result would have more than TINESAGE_MOST_WORDS words */
     TINESAGE_REFUSAL_OUTPUT_TOO_SHORT = 16, /* fewer words are lent than the result has */
     /* the machine */
     TINESAGE_REFUSAL_OUT_OF_RANGE = 17,   /* no such procedure, array or cell; too few cells lent */
@@ -195,7 +195,8 @@ void tinesage_check(const uint8_t *image, size_t image_len, uint8_t *answer, siz
  *
  * Done: count is the number of words written; result and steps are 0.
  * Refused: 1 to 13 as by tinesage_check; then 14, the image is in compiled form already; 15, the
- *   result passes the limits of the compiled form; 16, `out` has fewer words than the result.
+ *   result would have more than TINESAGE_MOST_WORDS words; 16, `out` has fewer words than the
+ *   result.
  * Written: the answer; where done, the first `count` words of `out`: the compiled image. Room for
  *   TINESAGE_MOST_WORDS words is always enough. After a refusal `out` is as before.
  */

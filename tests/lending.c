@@ -1,7 +1,8 @@
 /*
  * What each lent byte holds after a request: slices with spare words and odd lengths, slices that are too short for the
  * answer, refusals and stops. A preview is held to the call with the same arguments: the same bytes, and no cell. A
- * routine whose index is a loop variable plus a constant is held to sums that are computed here.
+ * routine whose index is a loop variable plus a constant is held to sums that are computed here, and one whose secret ifs
+ * share their variables to what the same ifs give in C.
  * Prints 'N passed, M failed' as its last line; a preview that writes to cells which it may only read ends the program
  * before that line.
  */
@@ -173,13 +174,28 @@ static void make_returns(uint32_t count)
         push(0x60040000), push(0x70000001);
 }
 
-/* one procedure of so many empty ifs over a secret parameter; each takes two locals */
+/* one procedure of so many empty ifs over a secret parameter; each becomes five words, and all share two locals */
 static void make_ifs(uint32_t count)
 {
     source_words = 0;
     push(0x10000001), push(0x30000100), push(0x40000001), push(0x40000003), push(0x50000000 | count);
     for (uint32_t i = 0; i < count; i++)
         push(0x60020000), push(0xA0000000), push(0x50000000), push(0x50000000);
+}
+
+/*
+ * a guarded procedure of so many calls of another, which has so many locals; each call becomes seven words, and all share
+ * one local
+ */
+static void make_calls(uint32_t count, uint32_t locals)
+{
+    source_words = 0;
+    push(0x10000002), push(0x30010000 | locals), push(0x40000001);
+    for (uint32_t i = 0; i < locals; i++)
+        push(0x40000000);
+    push(0x50000000), push(0x30010001), push(0x40000001), push(0x40000001), push(0x50000000 | count);
+    for (uint32_t i = 0; i < count; i++)
+        push(0x60050000);
 }
 
 /* `number` 0: the result is written, and can be loaded; else no byte is */
@@ -213,9 +229,31 @@ static void long_compile_cases(void)
     make_returns(2000);
     expect_compiled("compile: 15 for too many words", sizeof result, 15, 0);
     expect_compiled("compile: 15 for too many words before 16", 0, 15, 0);
-    make_ifs(124);
-    expect_compiled("compile: 15 for too many locals", sizeof result, 15, 0);
-    expect_compiled("compile: 15 for too many locals before 16", 0, 15, 0);
+    make_calls(2339, 0);
+    expect_compiled("compile: a result of the most words is written", sizeof result, 0, TINESAGE_MOST_WORDS);
+    expect_compiled("compile: a result of the most words fills its slice", 4 * TINESAGE_MOST_WORDS, 0, TINESAGE_MOST_WORDS);
+    expect_compiled("compile: 16 where a byte of them is missing", 4 * TINESAGE_MOST_WORDS - 1, 16, 0);
+    make_calls(2339, 1);
+    expect_compiled("compile: 15 for a word more", sizeof result, 15, 0);
+    expect_compiled("compile: 15 for a word more before 16", 0, 15, 0);
+}
+
+/* 123 ifs, the most that could have two locals each, as they had before document 02, wish 8, and more; calls likewise */
+static void shared_locals_cases(void)
+{
+    static const uint32_t counts[] = {123, 124, 1022};
+    for (size_t i = 0; i < sizeof counts / sizeof counts[0]; i++) {
+        size_t words = 7 + 5 * (size_t)counts[i];
+        make_ifs(counts[i]);
+        expect_compiled("compile: many ifs share their locals", sizeof result, 0, words);
+        expect("compile: two new locals for many ifs", tinesage_word(result, 1) == 0x30000102 &&
+               tinesage_word(result, 4) == 0x40000003 && tinesage_word(result, 5) == 0x40000003);
+        expect_compiled("compile: many ifs, 16 where a word is missing", 4 * words - 1, 16, 0);
+    }
+    make_calls(246, 0);
+    expect_compiled("compile: many calls share their local", sizeof result, 0, 11 + 7 * 246);
+    expect("compile: one new local for many calls", tinesage_word(result, 5) == 0x30000102 &&
+           tinesage_word(result, 9) == 0x40000001);
 }
 
 /* Source form, one array, one procedure, two cells; a public array of two; an open procedure with one parameter, its
@@ -671,6 +709,69 @@ static void bounded_cases(void)
     expect_bounded("check: no pass, up to 0", 0, 0, 0x10000000, 1);
 }
 
+/* ---- secret ifs inside each other, in both arms, and beside each other, which share their variables ---- */
+
+/*
+ * Two secret conditions: x is 1 or 2 by the second where the first is true, else 3 or 4; then 10 is added where the second
+ * is true.
+ */
+static const uint32_t choice_words[] = {
+    0x10000001, 0x30000201, 0x40000001, 0x40000003, 0x40000003, 0x40000001, 0x50000003, 0x60020000, 0xA0000000,
+    0x50000001, 0x60020000, 0xA0000001, 0x50000001, 0x60000002, 0x70000001, 0x50000001, 0x60000002, 0x70000002,
+    0x50000001, 0x60020000, 0xA0000001, 0x50000001, 0x60000002, 0x70000003, 0x50000001, 0x60000002, 0x70000004,
+    0x60020000, 0xA0000001, 0x50000001, 0x60000002, 0xD0000000, 0xA0000002, 0x7000000A, 0x50000000, 0x60040000,
+    0xA0000002,
+};
+
+/* the same compiled, worked out from the two documents: T and E of two levels are variables 3 to 6 */
+static const uint32_t choice_compiled[] = {
+    0x10010001, 0x30000205, 0x40000001, 0x40000003, 0x40000003, 0x40000001, 0x40000003, 0x40000003, 0x40000003,
+    0x40000003, 0x5000000E, 0x60000003, 0xA0000000, 0x60000004, 0xC0000000, 0xA0000003, 0x60000005, 0xD000000D,
+    0xA0000003, 0xA0000001, 0x60000006, 0xD000000D, 0xA0000003, 0xC0000000, 0xA0000005, 0x60000002, 0xE0000000,
+    0xA0000005, 0x70000001, 0xA0000002, 0x60000002, 0xE0000000, 0xA0000006, 0x70000002, 0xA0000002, 0x60000005,
+    0xD000000D, 0xA0000004, 0xA0000001, 0x60000006, 0xD000000D, 0xA0000004, 0xC0000000, 0xA0000005, 0x60000002,
+    0xE0000000, 0xA0000005, 0x70000003, 0xA0000002, 0x60000002, 0xE0000000, 0xA0000006, 0x70000004, 0xA0000002,
+    0x60000003, 0xA0000001, 0x60000004, 0xC0000000, 0xA0000003, 0x60000002, 0xE0000000, 0xA0000003, 0xD0000000,
+    0xA0000002, 0x7000000A, 0xA0000002, 0x60040000, 0xA0000002,
+};
+
+#define CHOICE_STEPS 14
+
+static uint32_t chosen(uint32_t first, uint32_t second)
+{
+    uint32_t x;
+    if (first)
+        x = second ? 1 : 2;
+    else
+        x = second ? 3 : 4;
+    if (second)
+        x += 10;
+    return x;
+}
+
+static void choice_cases(void)
+{
+    uint8_t bytes[sizeof choice_words], image[sizeof choice_compiled], arguments[8];
+    put_words(bytes, choice_words, sizeof bytes);
+    put_words(image, choice_compiled, sizeof image);
+    reset_all();
+    tinesage_compile(bytes, sizeof bytes, result, sizeof result, answer.lent, answer_length);
+    expect_answer(&answer, (const uint32_t[7]){0, 0, 0, 0, 0, 0, sizeof image / 4});
+    expect_all("shared variables: the count of words");
+    expect("shared variables: compiled to the words that the two documents give", memcmp(result, image, sizeof image) == 0);
+    for (uint32_t i = 0; i < 4; i++) {
+        tinesage_put_word(arguments, 0, i / 2);
+        tinesage_put_word(arguments, 1, i % 2);
+        reset_all();
+        tinesage_call(image, sizeof image, cells.lent, CELLS_LENT, 0, arguments, sizeof arguments, CHOICE_STEPS, trace.lent,
+                      trace_length, answer.lent, answer_length);
+        expect_answer(&answer, (const uint32_t[7]){0, 0, 0, chosen(i / 2, i % 2), CHOICE_STEPS, 0, 2});
+        tinesage_put_word(trace.expected, 0, 0x80000000 | (sizeof image / 4 - 2));
+        tinesage_put_word(trace.expected, 1, 0);
+        expect_all("shared variables: what C gives, with one trace for all conditions");
+    }
+}
+
 int main(void)
 {
     setvbuf(stdout, NULL, _IOLBF, 0);
@@ -679,6 +780,7 @@ int main(void)
     check_cases();
     compile_cases();
     long_compile_cases();
+    shared_locals_cases();
     describe_cases();
     load_and_clear_cases();
     poke_and_peek_cases();
@@ -689,6 +791,7 @@ int main(void)
     preview_cases();
     carry_cases();
     bounded_cases();
+    choice_cases();
     printf("%u passed, %u failed\n", passed, failed);
     return failed == 0 ? EXIT_SUCCESS : EXIT_FAILURE;
 }

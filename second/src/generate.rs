@@ -9,8 +9,10 @@ use std::io::{self, Write};
 use crate::check::check;
 use crate::damage::{bend, damage, random_word};
 use crate::image::Form;
-use crate::limits::limit_image;
+use crate::levels::{levelled_image, Levelled};
+use crate::limits::{limit_image, long_result};
 use crate::neighbours::neighbour_image;
+use crate::operators::Sort;
 use crate::program::{program, Shape, Slip};
 use crate::protocol::{push_words, Driver};
 use crate::random::Random;
@@ -89,14 +91,16 @@ impl<W: Write> Generator<W> {
 
     fn case(&mut self) -> io::Result<()> {
         match self.random.below(100) {
-            0..=35 => self.source_case(),
-            36..=46 => self.compiled_case(),
-            47..=55 => self.neighbour_case(),
-            56..=68 => self.slipped_case(),
-            69..=77 => self.bent_case(),
-            78..=86 => self.damaged_case(),
-            87 | 88 => self.noise_case(),
-            89..=93 => self.limit_case(),
+            0..=26 => self.source_case(),
+            27..=35 => self.compiled_case(),
+            36..=43 => self.neighbour_case(),
+            44..=53 => self.level_case(),
+            54..=65 => self.slipped_case(),
+            66..=74 => self.bent_case(),
+            75..=83 => self.damaged_case(),
+            84 | 85 => self.noise_case(),
+            86..=90 => self.limit_case(),
+            91..=94 => self.length_case(),
             _ => self.changing_session(),
         }
     }
@@ -146,10 +150,7 @@ impl<W: Write> Generator<W> {
     /// Compiles, and asks again with slices that just fit or just do not.
     fn compile(&mut self, source: &[u32]) -> io::Result<Option<Vec<u32>>> {
         let answer = self.send_image("compile 20000", source)?;
-        let Some(listed) = answer.strip_prefix("ok ") else { return Ok(None) };
-        let parsed: Result<Vec<u32>, _> =
-            listed.split(' ').map(|word| u32::from_str_radix(word, 16)).collect();
-        let compiled = parsed.expect("the driver lists words");
+        let Some(compiled) = listed_words(&answer) else { return Ok(None) };
         if self.random.chance(15) {
             let fit = compiled.len() as u32;
             let short = self.random.below(fit);
@@ -193,6 +194,41 @@ impl<W: Write> Generator<W> {
             } else if self.random.chance(25) {
                 self.send_image("compile 20000", &image)?;
                 self.session(&image)?;
+            }
+        }
+        Ok(())
+    }
+
+    /// Images whose secret ifs and calls share new locals, used in both forms.
+    /// The comment is for whoever counts: how many secret ifs stand inside each
+    /// other, and the sorts of the results of calls in a secret context.
+    fn level_case(&mut self) -> io::Result<()> {
+        for _ in 0..self.random.between(3, 5) {
+            let Levelled { image, levels, calls } = levelled_image(&mut self.random);
+            let calls = match calls[..] {
+                [] => "none",
+                [Sort::Word] => "word",
+                [Sort::Boolean] => "boolean",
+                [Sort::Word, ..] => "word boolean",
+                [Sort::Boolean, ..] => "boolean word",
+            };
+            self.send(format!("# guard variables: {levels} levels, calls: {calls}"))?;
+            self.both_forms(&image)?;
+        }
+        Ok(())
+    }
+
+    /// Two sources whose results have about as many words as they may have: one
+    /// no more than that, one more. The comments are for whoever counts.
+    fn length_case(&mut self) -> io::Result<()> {
+        for past in [false, true] {
+            let image = long_result(&mut self.random, past);
+            self.send("# long result".to_string())?;
+            let answer = self.send_image("compile 16384", &image)?;
+            let capacity = self.random.pick(&[0, 16_383, 16_385]).unwrap_or(0);
+            self.send_image(&format!("compile {capacity}"), &image)?;
+            if let Some(compiled) = listed_words(&answer).filter(|_| self.random.chance(40)) {
+                self.session(&compiled)?;
             }
         }
         Ok(())
@@ -485,6 +521,14 @@ impl<W: Write> Generator<W> {
         let before = self.random.pick(&counts).unwrap_or(trace.len());
         before as u32 + self.random.below(3)
     }
+}
+
+/// The words of the result in the answer to a compile; None for a refusal.
+fn listed_words(answer: &str) -> Option<Vec<u32>> {
+    let listed = answer.strip_prefix("ok ")?;
+    let parsed: Result<Vec<u32>, _> =
+        listed.split(' ').map(|word| u32::from_str_radix(word, 16)).collect();
+    Some(parsed.expect("the driver lists words"))
 }
 
 /// The steps and the trace words in the answer to a call or preview.

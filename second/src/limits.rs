@@ -1,5 +1,6 @@
-//! Images at the limits: one below, at, and one above each.
+//! Images at the limits, for most of them one below, at, and one above.
 
+use crate::compile::compile;
 use crate::image::{Form, MAX_ARRAYS, MAX_CELLS, MAX_PROCEDURES};
 use crate::operators::{Binary, Unary};
 use crate::random::Random;
@@ -21,7 +22,6 @@ pub fn limit_image(random: &mut Random) -> Vec<u32> {
         6 => many_secret_calls(random),
         7 => many_cells(random, form),
         8 => many_procedures(random, form),
-        _ if random.chance(60) => long_output(random),
         _ => long_image(random, form),
     }
 }
@@ -141,11 +141,13 @@ fn many_variables(random: &mut Random, form: Form) -> Vec<u32> {
     image
 }
 
-/// Each secret if takes two new locals, a deferred return two more once.
+/// Ifs beside each other, which share their new locals: as many as would bring
+/// the locals to 246 with two for each, as before document 02, wish 8, or more.
+/// At times the last one defers a return.
 fn many_secret_ifs(random: &mut Random) -> Vec<u32> {
     let locals = random.below(65);
     let returns = random.below(2);
-    let count = around(random, (246 - locals - 2 * returns) / 2);
+    let count = (246 - locals) / 2 + random.below(200);
     let mut image = vec![header(Form::Source, 0, 1), procedure(false, 1, locals)];
     image.extend([SECRET_WORD, SECRET_BOOLEAN]);
     image.extend(std::iter::repeat_n(SECRET_WORD, locals as usize));
@@ -163,17 +165,25 @@ fn many_secret_ifs(random: &mut Random) -> Vec<u32> {
     image
 }
 
-/// Each call in a secret context takes one new local.
+/// Calls in a secret context, of either sort of result, which share a new local
+/// for each sort: as many as would bring the locals to 246 with one for each
+/// call, or more.
 fn many_secret_calls(random: &mut Random) -> Vec<u32> {
-    let locals = random.between(1, 64);
-    let count = around(random, 246 - locals);
-    let mut image = vec![header(Form::Source, 0, 2)];
+    let locals = random.between(2, 64);
+    let count = 246 - locals + random.below(200);
+    let mut image = vec![header(Form::Source, 0, 3)];
     image.extend([procedure(true, 0, 0), SECRET_WORD, EMPTY_BLOCK]);
-    image.extend([procedure(true, 0, locals), SECRET_WORD]);
-    image.extend(std::iter::repeat_n(SECRET_WORD, locals as usize));
+    image.extend([procedure(true, 0, 0), SECRET_BOOLEAN, EMPTY_BLOCK]);
+    image.extend([procedure(true, 0, locals), SECRET_WORD, SECRET_BOOLEAN]);
+    image.extend(std::iter::repeat_n(SECRET_WORD, locals as usize - 1));
     image.push(word(words::BLOCK, count));
+    let boolean_percent = random.pick(&[0, 10, 50, 100]).unwrap_or(50);
     for _ in 0..count {
-        image.push(words::call(0, random.below(locals)));
+        if random.chance(boolean_percent) {
+            image.push(words::call(1, 0));
+        } else {
+            image.push(words::call(0, random.between(1, locals - 1)));
+        }
     }
     image
 }
@@ -238,21 +248,72 @@ fn long_image(random: &mut Random, form: Form) -> Vec<u32> {
     image
 }
 
-/// A source whose compiled form is about as long as it may be: a deferred
-/// return grows from 2 words to 14, and the last one is padded to fit.
-fn long_output(random: &mut Random) -> Vec<u32> {
-    let returns = random.between(1168, 1169);
-    let padding = random.between(9, 26);
-    let mut image = vec![header(Form::Source, 0, 1), procedure(true, 0, 0), SECRET_WORD];
-    image.push(word(words::BLOCK, returns));
-    for _ in 1..returns {
-        image.extend([statement(words::RETURN, 0), word(words::CONSTANT, 1)]);
+/// What a long result is mostly made of; each grows more than fourfold.
+#[derive(Clone, Copy)]
+enum Filling {
+    Returns,
+    Calls,
+    IfsWithCalls,
+}
+
+/// A source whose compiled form has as many words as it may have or a few
+/// fewer, or, past that, mostly one more.
+pub fn long_result(random: &mut Random, past: bool) -> Vec<u32> {
+    let off = if random.chance(80) { 0 } else { random.between(1, 15) };
+    let limit = Form::Compiled.max_words() as u32;
+    let target = if past { limit + 1 + off } else { limit - off };
+    let fillings = [Filling::Returns, Filling::Calls, Filling::IfsWithCalls];
+    let filling = random.pick(&fillings).unwrap_or(Filling::Calls);
+    let guarded = random.chance(50);
+    let filled = |count: u32, padding: u32| filled_image(filling, guarded, count, padding);
+    // All fillings of one image grow alike, and padding keeps its length.
+    let length = |count: u32| {
+        let compiled = compile(&words::to_bytes(&filled(count, LEAST_PADDING)), u64::MAX);
+        compiled.map_or(0, |compiled| compiled.len() as u32)
+    };
+    let (one, two) = (length(1), length(2));
+    let count = 1 + (target - one) / (two - one);
+    let padding = LEAST_PADDING + (target - one) % (two - one);
+    filled(count, padding)
+}
+
+/// Words of the procedure that brings an image to its length: every length from
+/// here on can be made.
+const LEAST_PADDING: u32 = 6;
+
+/// A procedure to call, one with the filling behind a return in a secret if,
+/// and one that keeps its words.
+fn filled_image(filling: Filling, guarded: bool, count: u32, padding: u32) -> Vec<u32> {
+    let secret_if = [statement(words::IF, 0), word(words::VARIABLE, 0)];
+    let returned = [statement(words::RETURN, 0), word(words::CONSTANT, 1)];
+    let mut image = vec![header(Form::Source, 0, 3)];
+    image.extend([procedure(true, 0, 0), SECRET_WORD, EMPTY_BLOCK]);
+    image.extend([procedure(guarded, 1, 1), SECRET_WORD, SECRET_BOOLEAN, SECRET_WORD]);
+    image.push(word(words::BLOCK, count + 1));
+    image.extend(secret_if);
+    image.push(word(words::BLOCK, 1));
+    image.extend(returned);
+    image.push(EMPTY_BLOCK);
+    for _ in 0..count {
+        match filling {
+            Filling::Returns => image.extend(returned),
+            Filling::Calls => image.push(words::call(0, 1)),
+            Filling::IfsWithCalls => {
+                image.extend(secret_if);
+                image.extend([word(words::BLOCK, 2), words::call(0, 1), words::call(0, 1)]);
+                image.push(EMPTY_BLOCK);
+            }
+        }
     }
-    image.push(statement(words::RETURN, 0));
-    image.extend(std::iter::repeat_n(
-        word(words::UNARY, Unary::Complement as u32),
-        padding as usize,
-    ));
-    image.push(word(words::CONSTANT, 2));
+    image.extend([procedure(false, 0, 1), SECRET_WORD, SECRET_WORD]);
+    let statements = padding - 4;
+    image.push(word(words::BLOCK, statements / 2));
+    for left in (1..=statements / 2).rev() {
+        image.push(statement(words::ASSIGN, 0));
+        if left == 1 && statements % 2 == 1 {
+            image.push(word(words::UNARY, Unary::Complement as u32));
+        }
+        image.push(word(words::CONSTANT, left));
+    }
     image
 }

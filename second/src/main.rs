@@ -12,6 +12,7 @@ mod generate;
 mod image;
 mod interpreter;
 mod labels;
+mod levels;
 mod limits;
 mod machine;
 mod neighbours;

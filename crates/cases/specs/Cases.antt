@@ -24,8 +24,8 @@ use Rattle.definitions.specs.Labels.{proceduresLabelFaults, imageLabelFaults}
 use Rattle.definitions.specs.Checking.{faultOf, withoutFault, admitted, verdict, checked}
 use Rattle.definitions.specs.Encoding.{expressionWords, argumentWords, statementCount, statementWords, blockWords}
 use Rattle.definitions.specs.Encoding.{procedureWords, proceduresWords, imageWords}
-use Rattle.definitions.specs.Compiling.{moved, movedAll, act, masked, under, followedBy, temporaries, compiledIf}
-use Rattle.definitions.specs.Compiling.{compiledReturn, compiledCall, compiledStatement, closed, compiledTypes}
+use Rattle.definitions.specs.Compiling.{moved, movedAll, act, masked, under, followedBy, statementNesting, statementNeeds}
+use Rattle.definitions.specs.Compiling.{compiledIf, compiledReturn, compiledCall, compiledStatement, closed, compiledTypes}
 use Rattle.definitions.specs.Compiling.{compiledBody, compiledProcedure, compiledProcedures, compiledImage, fitLocals}
 use Rattle.definitions.specs.Compiling.{written, compiledTree, compiled}
 use Rattle.definitions.specs.Running.{emit, inArray, indexAt, divided, shifted, operated, evaluate, evaluateAll, tick, passes}
@@ -115,5 +115,5 @@ example-has-no-shift = (refl, refl)
 
 -- Every case of the table holds.
 pub starred-hold : AllHold starred
-unfolding applyBinary applyUnary headerWord arrayWord procedureWord typeWord blockWord statementWord expressionWord rawWord placeOf cellCount baseOf readExpression readArguments readStatements readStatement readTypes readProcedure readProcedures readArrays readRest readImage least sortIn markStatement sortFaults argumentFaults statementSortFaults procedureSortFaults proceduresSortFaults imageSortFaults secretIn rcAfter isConstant constantValue boundedSum boundedIndex labelFaults argumentLabelFaults statementLabelFaults procedureLabelFaults proceduresLabelFaults imageLabelFaults faultOf withoutFault admitted verdict checked flatMap expressionWords argumentWords statementCount statementWords blockWords procedureWords proceduresWords imageWords moved movedAll act masked under followedBy temporaries compiledIf compiledReturn compiledCall compiledStatement closed compiledTypes compiledBody compiledProcedure compiledProcedures compiledImage fitLocals written compiledTree compiled emit inArray indexAt divided shifted operated evaluate evaluateAll tick passes taken received runStatement frame finish runProcedure withCells readyToLoad readyToServe argumentValues ended calledOn servedCall call
+unfolding applyBinary applyUnary headerWord arrayWord procedureWord typeWord blockWord statementWord expressionWord rawWord placeOf cellCount baseOf readExpression readArguments readStatements readStatement readTypes readProcedure readProcedures readArrays readRest readImage least sortIn markStatement sortFaults argumentFaults statementSortFaults procedureSortFaults proceduresSortFaults imageSortFaults secretIn rcAfter isConstant constantValue boundedSum boundedIndex labelFaults argumentLabelFaults statementLabelFaults procedureLabelFaults proceduresLabelFaults imageLabelFaults faultOf withoutFault admitted verdict checked flatMap expressionWords argumentWords statementCount statementWords blockWords procedureWords proceduresWords imageWords moved movedAll act masked under followedBy statementNesting statementNeeds compiledIf compiledReturn compiledCall compiledStatement closed compiledTypes compiledBody compiledProcedure compiledProcedures compiledImage fitLocals written compiledTree compiled emit inArray indexAt divided shifted operated evaluate evaluateAll tick passes taken received runStatement frame finish runProcedure withCells readyToLoad readyToServe argumentValues ended calledOn servedCall call
 starred-hold = (refl, (refl, (refl, (refl, (refl, (refl, (refl, (refl, (refl, (refl, tt))))))))))

@@ -3,3 +3,4 @@ pub mod Values
 pub mod Descriptions
 pub mod Previews
 pub mod Indices
+pub mod Numbering

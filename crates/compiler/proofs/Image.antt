@@ -1,10 +1,10 @@
 -- What the returns of the emission of an image and of the compiler give, and what their calls ask. Assumes nothing.
 use Prim.Native.Nat.{ℕ, suc, _+_, _*_, _-_, _≤_, _<_}
-use mathlib.Core.Bool.{Bool, true, false, not}
+use mathlib.Core.Bool.{Bool, true, false}
 use mathlib.Core.List.{List, [], _∷_, _++_}
 use mathlib.Core.Path.{_≡_, refl, sym, ap, _∙_}
 use native.Mathlib.Omega.{arith}
-use borrow.Author.Tests.{leb-true, leb-false, le-leb, lt-leb, not-true, not-false}
+use borrow.Author.Tests.{leb-true, leb-false, le-leb, lt-leb}
 use lib.Dec.{leb}
 use lib.ListN.{length, getD, take, drop}
 use Rattle.definitions.specs.declared.Compiled.{Compiled}
@@ -13,11 +13,11 @@ use Rattle.definitions.specs.Image.{arraysOf, proceduresOf, Procedure, Image}
 use Rattle.definitions.specs.Encoding.{wordWith, proceduresWords, imageWords}
 use Rattle.definitions.specs.Compiling.{compiledProcedures, compiledImage, fitLocals, written}
 use Rattle.laws.specs.ImageIn.{imageIn, proceduresIn, image-words, arrays-inside, arrays-part}
+use Rattle.laws.specs.CompiledLocals.{locals-always-fit}
 use Rattle.tables.specs.Table.{Known}
 use Rattle.writer.specs.Writing.{Output, write, writes}
 use Rattle.writer.specs.Laws.{writes-on, writes-app, place, place-far}
-use Rattle.compiler.specs.Compile.{Sizing, sizing, eachOn, imageOn, answerOn}
-use Rattle.compiler.specs.declared.Sized.{Sized}
+use Rattle.compiler.specs.Compile.{eachOn, answerOn}
 
 compiled-count : (ps : List Procedure) (arrays : List ℕ) (rest : List Procedure) → length (compiledProcedures ps arrays rest) ≡ length rest
 unfolding compiledProcedures
@@ -44,80 +44,73 @@ module _ (image table : List ℕ) (k : Known image table) (n : ℕ) (hn : n ≡ 
       let d = compiled-count (proceduresIn image) (imageIn image .arrays) (proceduresIn image) in
       omega arith
 
-  pub image-on : (out : List ℕ) (m v j p : ℕ) (t1 : List ℕ) (q : ℕ) (t2 : List ℕ) (c : Sized) (t3 : List ℕ) → m ≡ proceduresOf (getD image 0 0)
+  pub image-on : (out : List ℕ) (m v j p : ℕ) (t1 : List ℕ) (q : ℕ) (t2 : List ℕ) (r : ℕ) (t3 : List ℕ) → m ≡ proceduresOf (getD image 0 0)
       → v ≡ wordWith 1 (1 * 65536 + n * 256 + m) → j ≡ n → _≡_ {A = Output} (p, t1) (write 0 out v)
       → _≡_ {A = Output} (q, t2) (writes p t1 (take (1 + j - 1) (drop 1 image)))
-      → _≡_ {A = Sizing} (c, t3) (eachOn (proceduresIn image) (imageIn image .arrays) (proceduresIn image) true q t2)
-      → _≡_ {A = Sizing} (c, t3) (imageOn (imageIn image) out)
-  unfolding eachOn imageOn imageWords compiledImage
-  image-on out m v j p t1 q t2 c t3 hm hv hj e f g =
+      → _≡_ {A = Output} (r, t3) (eachOn (proceduresIn image) (imageIn image .arrays) (proceduresIn image) q t2)
+      → _≡_ {A = Output} (r, t3) (writes 0 out (imageWords (compiledImage (imageIn image))))
+  unfolding eachOn imageWords compiledImage
+  image-on out m v j p t1 q t2 r t3 hm hv hj e f g =
       let A = imageIn image .arrays in
       let P = compiledProcedures (proceduresIn image) A (proceduresIn image) in
       let F : _≡_ {A = Output} (q, t2) (writes 0 out (v ∷ A)) =
       f ∙ ap (λ ws. writes p t1 ws) (arrays-are j hj) ∙ ap (λ (z : Output). writes (z .0) (z .1) A) e ∙ sym (writes-on 0 out v A) in
-      g ∙ ap (λ (z : Output). sizing (fitLocals P) (writes (z .0) (z .1) (proceduresWords P))) F
-      ∙ ap (λ (z : Output). sizing (fitLocals P) z) (sym (writes-app (v ∷ A) (proceduresWords P) 0 out))
-      ∙ ap (λ (h : ℕ). sizing (fitLocals P) (writes 0 out (h ∷ (A ++ proceduresWords P)))) (hv ∙ header-is m hm)
+      g ∙ ap (λ (z : Output). writes (z .0) (z .1) (proceduresWords P)) F ∙ sym (writes-app (v ∷ A) (proceduresWords P) 0 out)
+      ∙ ap (λ (h : ℕ). writes 0 out (h ∷ (A ++ proceduresWords P))) (hv ∙ header-is m hm)
 
--- ---- sizes and refusals
+-- ---- refusals: the place tells the number of words, or that there are too many
 
-module _ (tree : Image) (out : List ℕ) (d : Sized) (t : List ℕ) (s : _≡_ {A = Sizing} (d, t) (imageOn tree out)) where
-  fits-is : d .fits ≡ fitLocals (compiledImage tree .procedures)
-  unfolding imageOn
-  fits-is = ap (λ (z : Sizing). z .0 .fits) s
+-- "15 result over form 1's limits": its locals are within them
+pub locals-within : (image table : List ℕ) → Known image table → imageIn image .form ≡ 0 → fitLocals (compiledImage (imageIn image) .procedures) ≡ true
+locals-within image table k s = let (n, w) = image-words image (k .read) in locals-always-fit (imageIn image) (w .fits) s
 
-  place-is : d .o ≡ writes 0 out (imageWords (compiledImage tree)) .0
-  unfolding imageOn
-  place-is = ap (λ (z : Sizing). z .0 .o) s
+module _ (tree : Image) (fit : fitLocals (compiledImage tree .procedures) ≡ true) (out : List ℕ) (end : ℕ) (t : List ℕ)
+    (s : _≡_ {A = Output} (end, t) (writes 0 out (imageWords (compiledImage tree)))) (most : ℕ) (e : most ≡ 16384) where
+  place-is : end ≡ writes 0 out (imageWords (compiledImage tree)) .0
+  place-is = ap (λ (z : Output). z .0) s
 
   words-are : t ≡ writes 0 out (imageWords (compiledImage tree)) .1
-  unfolding imageOn
-  words-are = ap (λ (z : Sizing). z .1) s
+  words-are = ap (λ (z : Output). z .1) s
 
-  -- the place tells the number of words, or that there are too many
-  size-small : d .o ≤ 16384 → d .o ≡ length (imageWords (compiledImage tree))
+  size-small : end ≤ 16384 → end ≡ length (imageWords (compiledImage tree))
   size-small h = go (leb (length (imageWords (compiledImage tree))) 16385) refl
     where
-      go : (b : Bool) → leb (length (imageWords (compiledImage tree))) 16385 ≡ b → d .o ≡ length (imageWords (compiledImage tree))
+      go : (b : Bool) → leb (length (imageWords (compiledImage tree))) 16385 ≡ b → end ≡ length (imageWords (compiledImage tree))
       go true k =
           let z : length (imageWords (compiledImage tree)) ≤ 16385 = leb-true _ _ k in
           place-is ∙ place (imageWords (compiledImage tree)) 0 out (omega arith) ∙ omega arith
       go false k =
           let z : 16385 < length (imageWords (compiledImage tree)) = leb-false _ _ k in
-          let y : d .o ≡ 16385 = place-is ∙ place-far (imageWords (compiledImage tree)) 0 out (omega arith) (omega arith) in
+          let y : end ≡ 16385 = place-is ∙ place-far (imageWords (compiledImage tree)) 0 out (omega arith) (omega arith) in
           absurd (omega arith)
 
-  size-large : 16384 < d .o → 16384 < length (imageWords (compiledImage tree))
+  size-large : 16384 < end → 16384 < length (imageWords (compiledImage tree))
   size-large h = go (leb (length (imageWords (compiledImage tree))) 16384) refl
     where
       go : (b : Bool) → leb (length (imageWords (compiledImage tree))) 16384 ≡ b → 16384 < length (imageWords (compiledImage tree))
       go true k =
           let z : length (imageWords (compiledImage tree)) ≤ 16384 = leb-true _ _ k in
-          let y : d .o ≡ 0 + length (imageWords (compiledImage tree)) = place-is ∙ place (imageWords (compiledImage tree)) 0 out (omega arith) in
+          let y : end ≡ 0 + length (imageWords (compiledImage tree)) = place-is ∙ place (imageWords (compiledImage tree)) 0 out (omega arith) in
           absurd (omega arith)
       go false k = leb-false _ _ k
 
-  pub locals-over : not (d .fits) ≡ true → _≡_ {A = Compiled × List ℕ} (Refused 15 0, t) (answerOn tree out)
+  pub words-over : most < end → _≡_ {A = Compiled × List ℕ} (Refused 15 0, t) (answerOn tree out)
   unfolding answerOn written
-  locals-over h = rw (sym fits-is ∙ not-true (d .fits) h, words-are)
+  words-over g = rw (fit, lt-leb _ _ (size-large (omega arith)), words-are)
 
-  module _ (most : ℕ) (e : most ≡ 16384) (f : not (d .fits) ≡ false) where
-    pub words-over : most < d .o → _≡_ {A = Compiled × List ℕ} (Refused 15 0, t) (answerOn tree out)
+  module _ (g : end ≤ most) (room : ℕ) (r : room ≡ length out) where
+    pub output-short : room < end → _≡_ {A = Compiled × List ℕ} (Refused 16 0, t) (answerOn tree out)
     unfolding answerOn written
-    words-over g = rw (sym fits-is ∙ not-false (d .fits) f, lt-leb _ _ (size-large (omega arith)), words-are)
-
-    pub output-short : d .o ≤ most → (room : ℕ) → room ≡ length out → room < d .o → _≡_ {A = Compiled × List ℕ} (Refused 16 0, t) (answerOn tree out)
-    unfolding answerOn written
-    output-short g room r k =
+    output-short k =
         let z = size-small (omega arith) in
         let a : length (imageWords (compiledImage tree)) ≤ 16384 = omega arith in
         let b : length out < length (imageWords (compiledImage tree)) = omega arith in
-        rw (sym fits-is ∙ not-false (d .fits) f, le-leb _ _ a, lt-leb _ _ b, words-are)
+        rw (fit, le-leb _ _ a, lt-leb _ _ b, words-are)
 
-    pub all-written : d .o ≤ most → (room : ℕ) → room ≡ length out → d .o ≤ room → _≡_ {A = Compiled × List ℕ} (Written (d .o), t) (answerOn tree out)
+    pub all-written : end ≤ room → _≡_ {A = Compiled × List ℕ} (Written end, t) (answerOn tree out)
     unfolding answerOn written
-    all-written g room r k =
+    all-written k =
         let z = size-small (omega arith) in
         let a : length (imageWords (compiledImage tree)) ≤ 16384 = omega arith in
         let b : length (imageWords (compiledImage tree)) ≤ length out = omega arith in
-        rw (sym fits-is ∙ not-false (d .fits) f, le-leb _ _ a, le-leb _ _ b, z, words-are)
+        rw (fit, le-leb _ _ a, le-leb _ _ b, z, words-are)

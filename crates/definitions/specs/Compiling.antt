@@ -1,11 +1,12 @@
 -- Document 01, "From source form to compiled form". "Everything keeps its order; in a public context it keeps its
 -- words." The compiled tree has no places of its own: its words are those of Encoding.
-use Prim.Native.Nat.{ℕ, _+_, _*_, _-_}
+use Prim.Native.Nat.{ℕ, _+_, _*_, _-_, max}
 use mathlib.Core.Bool.{Bool, true, false, _&&_, _||_}
 use mathlib.Core.List.{List, [], _∷_, _++_, map}
 use lib.Dec.{ltb, leb, eqb}
-use lib.ListN.{length, take, drop}
+use lib.ListN.{length, take, drop, replicate}
 use Rattle.definitions.specs.Choice.{pick}
+use Rattle.definitions.specs.Operators.{wordSort, booleanSort}
 use Rattle.definitions.specs.declared.Compiled.{Compiled}
 use Rattle.definitions.specs.declared.Compiled.the-variants.{Written, Refused}
 use Rattle.definitions.specs.Image.{Expression, constant, boolean, variable, cell, unary, binary, select}
@@ -64,44 +65,52 @@ unfoldable pub followedBy : Block → Block → Block
 followedBy done c = c
 followedBy (sequence p s b) c = sequence p s (followedBy b c)
 
--- "by place T, E for each secret if and one secret temporary, of the callee's result sort, for each call in a secret
--- context"
-abbrev pub callTemporary : Bool → List Procedure → ℕ → List ℕ
-callTemporary context ps f = pick context (secretOf (typeSort (procedureAt ps f .result)) ∷ []) []
-
-abbrev pub ifTemporaries : Bool → List ℕ
-ifTemporaries secret = pick secret (secretBoolean ∷ secretBoolean ∷ []) []
-
--- over the image's procedures and array words, and the type words of the procedure's variables
-module _ (ps : List Procedure) (arrays types : List ℕ) where
-  -- the type words of the temporaries of a statement, by pc and rc before it, and of a block
+-- Document 02, wish 8: "one T and E pair for each nesting level of secret ifs". Over the image's array words and the type
+-- words of the procedure's variables: the nesting levels of secret ifs in a statement and in a block; public ifs and fors
+-- are none
+module _ (arrays types : List ℕ) where
   unfoldable mutual
-    pub temporaries : Bool → Bool → Statement → List ℕ
-    temporaries pc rc (assign x e) = []
-    temporaries pc rc (store a i e) = []
-    temporaries pc rc (conditional c a b) = ifTemporaries (secretIn types arrays c)
-        ++ (blockTemporaries (pc || secretIn types arrays c) rc a
-        ++ blockTemporaries (pc || secretIn types arrays c) rc b)
-    temporaries pc rc (loop x f t b) = blockTemporaries pc (rcAfterBlock types arrays pc rc b) b
-    temporaries pc rc (return e) = []
-    temporaries pc rc (call f x es) = callTemporary (pc || rc) ps f
+    pub statementNesting : Statement → ℕ
+    statementNesting (assign x e) = 0
+    statementNesting (store a i e) = 0
+    statementNesting (conditional c a b) = pick (secretIn types arrays c) 1 0 + max (blockNesting a) (blockNesting b)
+    statementNesting (loop x f t b) = blockNesting b
+    statementNesting (return e) = 0
+    statementNesting (call f x es) = 0
 
-    pub blockTemporaries : Bool → Bool → Block → List ℕ
-    blockTemporaries pc rc done = []
-    blockTemporaries pc rc (sequence p s b) =
-        temporaries pc rc s ++ blockTemporaries pc (rcAfter types arrays pc rc s) b
+    pub blockNesting : Block → ℕ
+    blockNesting done = 0
+    blockNesting (sequence p s b) = max (statementNesting s) (blockNesting b)
 
--- what compiles an arm: by whether pc is secret in it, its variable, and the next temporary
+-- Document 02, wish 8: "one word temporary and one boolean temporary, each only if needed": by pc and rc before a
+-- statement and before a block, whether a call there in a secret context has a result of the sort
+module _ (ps : List Procedure) (arrays types : List ℕ) (sort : ℕ) where
+  unfoldable mutual
+    pub statementNeeds : Bool → Bool → Statement → Bool
+    statementNeeds pc rc (assign x e) = false
+    statementNeeds pc rc (store a i e) = false
+    statementNeeds pc rc (conditional c a b) = blockNeeds (pc || secretIn types arrays c) rc a
+        || blockNeeds (pc || secretIn types arrays c) rc b
+    statementNeeds pc rc (loop x f t b) = blockNeeds pc (rcAfterBlock types arrays pc rc b) b
+    statementNeeds pc rc (return e) = false
+    statementNeeds pc rc (call f x es) = (pc || rc) && eqb (typeSort (procedureAt ps f .result)) sort
+
+    pub blockNeeds : Bool → Bool → Block → Bool
+    blockNeeds pc rc done = false
+    blockNeeds pc rc (sequence p s b) = statementNeeds pc rc s || blockNeeds pc (rcAfter types arrays pc rc s) b
+
+-- what compiles an arm: by whether pc is secret in it, its variable, and T of the next level
 abbrev pub ArmCode : Type 0
 ArmCode = Bool → ℕ → ℕ → Block
 
 -- "Secret if: T := condition, E := not T; under an act, T := act and condition, E := act and not T. The arms follow in
--- line." "An if with a public condition and a for keep their form." `size`: how many temporaries the first arm has
-unfoldable pub compiledIf : Bool → Bool → ℕ → Bool → ℕ → ℕ → Expression → ℕ → ArmCode → ArmCode → Block
-compiledIf true pc arm rc live k c size a b = sequence 0 (assign k (under (pc || rc) (act pc arm rc live) c))
+-- line." "An if with a public condition and a for keep their form." T is variable k, E the one after it; both arms begin
+-- at the next pair
+unfoldable pub compiledIf : Bool → Bool → ℕ → Bool → ℕ → ℕ → Expression → ArmCode → ArmCode → Block
+compiledIf true pc arm rc live k c a b = sequence 0 (assign k (under (pc || rc) (act pc arm rc live) c))
     (sequence 0 (assign (k + 1) (under (pc || rc) (act pc arm rc live) (unary 0 0 (variable 0 k))))
-    (followedBy (a true k (k + 2)) (b true (k + 1) (k + 2 + size))))
-compiledIf false pc arm rc live k c size a b = one (conditional c (a pc arm k) (b pc arm (k + size)))
+    (followedBy (a true k (k + 2)) (b true (k + 1) (k + 2))))
+compiledIf false pc arm rc live k c a b = one (conditional c (a pc arm k) (b pc arm k))
 
 -- "Deferred return: RV := select(act, value, RV); LIVE := select(act, false, LIVE)."
 unfoldable pub compiledReturn : Bool → Expression → ℕ → Expression → Block
@@ -116,9 +125,10 @@ compiledCall true g a k f x es =
     sequence 0 (call f k (es ++ (a ∷ []))) (one (assign x (select 0 a (variable 0 k) (variable 0 x))))
 compiledCall false g a k f x es = one (call f x (es ++ pick g (boolean 0 1 ∷ []) []))
 
--- over procedures, array words, type words of the procedure's variables, the first that moves, and RV, which LIVE follows
-module _ (ps : List Procedure) (arrays types : List ℕ) (first rv : ℕ) where
-  -- A statement, by pc and its arm's variable, rc, and the next temporary, and a block. "Assign: v := select(act,
+-- over procedures, array words, type words of the procedure's variables, the first that moves, RV, which LIVE follows,
+-- and the temporary for results of each sort
+module _ (ps : List Procedure) (arrays types : List ℕ) (first rv : ℕ) (temporary : ℕ → ℕ) where
+  -- A statement, by pc and its arm's variable, rc, and T of the next level, and a block. "Assign: v := select(act,
   -- value, v). Store: select(act, value, old cell)."
   unfoldable mutual
     pub compiledStatement : Statement → Bool → ℕ → Bool → ℕ → Block
@@ -128,19 +138,18 @@ module _ (ps : List Procedure) (arrays types : List ℕ) (first rv : ℕ) where
         (masked (pc || rc) (act pc arm rc (rv + 1)) (moved first e) (cell 0 a (moved first i))))
     compiledStatement (conditional c a b) pc arm rc k =
         compiledIf (secretIn types arrays c) pc arm rc (rv + 1) k (moved first c)
-        (length (blockTemporaries ps arrays types (pc || secretIn types arrays c) rc a))
         (λ q v n. compiledBlock a q v rc n) (λ q v n. compiledBlock b q v rc n)
     compiledStatement (loop x f t b) pc arm rc k = one (loop (renamed first x) (moved first f) (moved first t)
         (compiledBlock b pc arm (rcAfterBlock types arrays pc rc b) k))
     compiledStatement (return e) pc arm rc k = compiledReturn (pc || rc) (act pc arm rc (rv + 1)) rv (moved first e)
     compiledStatement (call f x es) pc arm rc k =
-        compiledCall (pc || rc) (guarded (procedureAt ps f)) (act pc arm rc (rv + 1)) k f (renamed first x)
-        (movedAll first es)
+        compiledCall (pc || rc) (guarded (procedureAt ps f)) (act pc arm rc (rv + 1))
+        (temporary (typeSort (procedureAt ps f .result))) f (renamed first x) (movedAll first es)
 
     pub compiledBlock : Block → Bool → ℕ → Bool → ℕ → Block
     compiledBlock done pc arm rc k = done
     compiledBlock (sequence p s b) pc arm rc k = followedBy (compiledStatement s pc arm rc k)
-        (compiledBlock b pc arm (rcAfter types arrays pc rc s) (k + length (temporaries ps arrays types pc rc s)))
+        (compiledBlock b pc arm (rcAfter types arrays pc rc s) k)
 
 -- whether "any return is deferred": rc becomes secret after just those
 abbrev pub defers : List ℕ → Procedure → Bool
@@ -154,8 +163,30 @@ guards p = pick (guarded p) 1 0
 abbrev pub returnVariable : Procedure → ℕ
 returnVariable p = length (p .types) + guards p
 
-abbrev pub firstTemporary : List ℕ → Procedure → ℕ
-firstTemporary arrays p = returnVariable p + pick (defers arrays p) 2 0
+-- Document 02, wish 8: "After RV and LIVE there shall be one T and E pair for each nesting level of secret ifs, outermost
+-- first": the number of T of the outermost level, and how many levels there are
+abbrev pub firstPair : List ℕ → Procedure → ℕ
+firstPair arrays p = returnVariable p + pick (defers arrays p) 2 0
+
+abbrev pub levels : List ℕ → Procedure → ℕ
+levels arrays p = blockNesting arrays (p .types) (p .body)
+
+-- "T, E and LIVE are secret booleans": the type words of the pairs
+abbrev pub pairTypes : ℕ → List ℕ
+pairTypes n = replicate (2 * n) secretBoolean
+
+-- Document 02, wish 8: "then one word temporary and one boolean temporary, each only if needed": whether a procedure
+-- needs that of a sort
+abbrev pub needed : List Procedure → List ℕ → Procedure → ℕ → Bool
+needed ps arrays p sort = blockNeeds ps arrays (p .types) sort (guarded p) false (p .body)
+
+-- "one secret temporary, of the callee's result sort": the type words of the two, by whether each is needed
+abbrev pub temporaryTypes : Bool → Bool → List ℕ
+temporaryTypes word bool = pick word (secretOf wordSort ∷ []) [] ++ pick bool (secretOf booleanSort ∷ []) []
+
+-- the temporary for results of a sort, where the first of the two stands at k and the word one is needed or not
+abbrev pub temporaryFrom : ℕ → Bool → ℕ → ℕ
+temporaryFrom k word sort = pick (eqb sort wordSort) k (k + pick word 1 0)
 
 -- the first variable that moves: a guarded procedure's first local; no variable of an open one does
 abbrev pub firstMoved : Procedure → ℕ
@@ -170,13 +201,16 @@ module _ (ps : List Procedure) (arrays : List ℕ) where
   unfoldable pub compiledTypes : Procedure → List ℕ
   compiledTypes p = take (p .parameters) (p .types)
       ++ (pick (guarded p) (secretBoolean ∷ []) [] ++ (drop (p .parameters) (p .types)
-      ++ (pick (defers arrays p) (p .result ∷ secretBoolean ∷ []) []
-      ++ blockTemporaries ps arrays (p .types) (guarded p) false (p .body))))
+      ++ (pick (defers arrays p) (p .result ∷ secretBoolean ∷ []) [] ++ (pairTypes (levels arrays p)
+      ++ temporaryTypes (needed ps arrays p wordSort) (needed ps arrays p booleanSort)))))
+
+  abbrev pub temporaryOf : Procedure → ℕ → ℕ
+  temporaryOf p sort = temporaryFrom (firstPair arrays p + 2 * levels arrays p) (needed ps arrays p wordSort) sort
 
   unfoldable pub compiledBody : Procedure → Block
   compiledBody p = closed (defers arrays p) (returnVariable p)
-      (compiledBlock ps arrays (p .types) (firstMoved p) (returnVariable p)
-      (p .body) (guarded p) (p .parameters) false (firstTemporary arrays p))
+      (compiledBlock ps arrays (p .types) (firstMoved p) (returnVariable p) (temporaryOf p)
+      (p .body) (guarded p) (p .parameters) false (firstPair arrays p))
 
   unfoldable pub compiledProcedure : Procedure → Procedure
   compiledProcedure p = record {

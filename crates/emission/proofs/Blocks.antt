@@ -5,23 +5,23 @@ use mathlib.Core.List.{List}
 use mathlib.Core.Path.{_≡_, refl, sym, ap, _∙_}
 use native.Mathlib.Nat.{add-zero}
 use native.Mathlib.Omega.{arith}
-use lib.ListN.{length, getD, length-append}
+use lib.ListN.{getD}
 use Rattle.definitions.specs.Image.{payloadOf, Statement, Block, done, sequence, Procedure}
 use Rattle.definitions.specs.Reading.{Parse, got, refused, readStatement, readBlock}
 use Rattle.definitions.specs.Labels.{rcAfter}
 use Rattle.definitions.specs.Encoding.{statementCount, statementWords, statementsWords}
-use Rattle.definitions.specs.Compiling.{temporaries, blockTemporaries, compiledStatement, compiledBlock}
+use Rattle.definitions.specs.Compiling.{compiledStatement, compiledBlock}
 use Rattle.laws.specs.Parses.{ok, endOf}
-use Rattle.image_words.specs.Read.{StatementRead, statementsAt}
-use Rattle.image_words.specs.StatementParts.{no-statement, first-statement, read-statement, read-statements, block-statements}
+use Rattle.image_words.specs.Read.{statementsAt}
+use Rattle.image_words.specs.StatementParts.{no-statement, first-statement, read-statements, block-statements}
 use Rattle.writer.specs.Writing.{writes}
 use Rattle.writer.specs.Laws.{writes-nil, writes-app}
-use Rattle.emission.specs.Emitted.{Emission, outcome, statementCode, emitted, emittedBlock}
-use Rattle.emission.specs.Following.{followed-count, followed-words}
+use Rattle.emission.specs.Emitted.{Emission, outcome, temporaryAt, statementCode, emitted, emittedBlock}
+use Rattle.laws.specs.Following.{followed-count, followed-words}
 use Rattle.emission.specs.declared.Scope.{Scope}
 use Rattle.emission.specs.declared.Cursor.{Cursor}
 use Rattle.emission.proofs.Outcomes.{outcome-eq}
-use Rattle.emission.proofs.Shapes.{block-step, block-temporaries, block-rc}
+use Rattle.emission.proofs.Shapes.{block-step, block-rc}
 
 module _ (ps : List Procedure) (arrays types : List ℕ) (s : Scope) (c : Cursor) (out : List ℕ) where
   statement-end : (x : Parse Statement) (d : Cursor) (t : List ℕ) → _≡_ {A = Emission} (d, t) (emitted ps arrays types s c out x) → d .at ≡ endOf x
@@ -30,9 +30,9 @@ module _ (ps : List Procedure) (arrays types : List ℕ) (s : Scope) (c : Cursor
   statement-end (refused m p) d t e = ap (λ (z : Emission). z .0 .at) e
 
   -- no statement is left
-  none-left : (m : ℕ) → emittedBlock ps arrays types s c out (got done m) ≡ outcome m (c .n) (c .k) (c .rc) (c .o, out)
-  unfolding emittedBlock compiledStatement temporaries rcAfter statementCount statementWords
-  none-left m = outcome-eq m (c .n + 0) (c .n) (c .k + 0) (c .k) (c .rc) _ _ (add-zero (c .n)) (add-zero (c .k)) (writes-nil (c .o) out)
+  none-left : (m : ℕ) → emittedBlock ps arrays types s c out (got done m) ≡ outcome m (c .n) (c .rc) (c .o, out)
+  unfolding emittedBlock compiledStatement rcAfter statementCount statementWords
+  none-left m = outcome-eq m (c .n + 0) (c .n) (c .rc) _ _ (add-zero (c .n)) (writes-nil (c .o) out)
 
   -- a statement, then the others
   then-left : (p : ℕ) (x : Statement) (b : Block) (m i : ℕ)
@@ -41,21 +41,15 @@ module _ (ps : List Procedure) (arrays types : List ℕ) (s : Scope) (c : Cursor
   unfolding emitted emittedBlock
   then-left p x b m i =
       let X = statementCode ps arrays types s c x in
-      let T = temporaries ps arrays types (s .pc) (c .rc) x in
       let R = rcAfter types arrays (s .pc) (c .rc) x in
-      let B = compiledBlock ps arrays types (s .first) (s .rv) b (s .pc) (s .arm) R (c .k + length T) in
-      rw (
-        block-step ps arrays types s c p x b,
-        block-temporaries ps arrays types s c p x b,
-        block-rc ps arrays types s c p x b,
-      )
-      (outcome-eq m _ _ _ _ _ _ _
+      let B = compiledBlock ps arrays types (s .first) (s .rv) (temporaryAt s) b (s .pc) (s .arm) R (s .pair) in
+      rw (block-step ps arrays types s c p x b, block-rc ps arrays types s c p x b)
+      (outcome-eq m _ _ _ _ _
       (let z = followed-count X B in omega arith)
-      (let z = length-append T (blockTemporaries ps arrays types (s .pc) R b) in omega arith)
       (sym (ap (λ ws. writes (c .o) out ws) (followed-words X B) ∙ writes-app (statementsWords X) _ (c .o) out)))
 
   -- the place where a walk begins is told by what is read there
-  pub place-apart : (at : ℕ) (x : Parse Block) → emittedBlock ps arrays types s (record { at = at; o = c .o; n = c .n; k = c .k; rc = c .rc }) out x
+  pub place-apart : (at : ℕ) (x : Parse Block) → emittedBlock ps arrays types s (record { at = at; o = c .o; n = c .n; rc = c .rc }) out x
       ≡ emittedBlock ps arrays types s c out x
   unfolding emittedBlock
   place-apart at (got b m) = refl

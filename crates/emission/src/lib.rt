@@ -14,6 +14,7 @@ use image_words::ops;
 use image_words::payload;
 use image_words::result;
 use image_words::target;
+use image_words::type_sort;
 use masking::Act;
 use masking::Call;
 use masking::emit_assign;
@@ -21,9 +22,11 @@ use masking::emit_call;
 use masking::emit_condition;
 use masking::emit_return;
 use masking::emit_store;
+use operators::WORD;
 use tables::SIZE;
 use tables::parameters;
 use tables::signatures::is_guarded;
+use tables::signatures::result_type;
 use writer::patch;
 use writer::put;
 ghost use mathlib.Core.Path.{_≡_};
@@ -40,24 +43,26 @@ ghost use Rattle.image_words.specs.Read.{ExpressionRead, PairRead, StatementRea
 ghost use Rattle.tables.specs.Table.{arraysIn, paramsIn};
 ghost use Rattle.contexts.specs.Context.{seen};
 ghost use Rattle.masking.specs.Forms.{Bounded};
-ghost use Rattle.emission.specs.Emitted.{actAt, Ready, Grown, emitted, emittedBlock, emittedBody, ifHead, forHead};
+ghost use Rattle.emission.specs.Emitted.{actAt, temporaryAt, Ready, Grown, emitted, emittedBlock, emittedBody, ifHead, forHead};
 
 // Where a walk is: the number of the procedure, whether pc is secret, the variable of the innermost secret arm or the guard, the first
-// variable that moves, and RV, which LIVE follows.
+// variable that moves, RV, which LIVE follows, T of the next level, which E follows, and the temporaries for results of calls.
 pub struct Scope {
     pub me: u32,
     pub pc: bool,
     pub arm: u32,
     pub first: u32,
     pub rv: u32,
+    pub pair: u32,
+    pub word: u32,
+    pub boolean: u32,
 }
 
-// How far a walk has come: the places in the source and in the output, the statements of the block so far, the next temporary, rc.
+// How far a walk has come: the places in the source and in the output, the statements of the block so far, rc.
 pub struct Cursor {
     pub at: usize,
     pub o: usize,
     pub n: u32,
-    pub k: u32,
     pub rc: bool,
 }
 
@@ -84,14 +89,15 @@ fn statements_of(secret: bool) -> u32
     1
 }
 
-// The number of temporaries that a call takes.
-fn temporaries_of(secret: bool) -> u32
-    ensures { λ r. ⌜ (r ≡ pick secret 1 0) × (r ≤ 1) ⌝ }
+// The temporary for a result of a sort.
+fn temporary_for(scope: Scope, sort: u32) -> u32
+    requires { ⌜ (scope .word ≤ 1000) × (scope .boolean ≤ 1000) ⌝ }
+    ensures { λ r. ⌜ (r ≡ temporaryAt scope sort) × (r ≤ 1000) ⌝ }
 {
-    if secret {
-        return 1;
+    if sort == WORD {
+        return scope.word;
     }
-    0
+    scope.boolean
 }
 
 // A statement that holds no block: assign, store, return or call. The types of the procedure's variables are not asked for.
@@ -122,7 +128,6 @@ fn emit_simple(
             at: v.at,
             o: v.o,
             n: cursor.n + 1,
-            k: cursor.k,
             rc: cursor.rc,
         };
     }
@@ -132,7 +137,6 @@ fn emit_simple(
             at: v.at,
             o: v.o,
             n: cursor.n + 1,
-            k: cursor.k,
             rc: cursor.rc,
         };
     }
@@ -144,7 +148,6 @@ fn emit_simple(
             at: v.at,
             o: v.o,
             n: cursor.n + d,
-            k: cursor.k,
             rc: secret,
         };
     }
@@ -175,18 +178,15 @@ fn emit_call_statement(
         guarded: is_guarded(image, table, f),
         count: parameters(table, f),
         result: renumber(first, result(w)),
-        temporary: cursor.k,
+        temporary: temporary_for(scope, type_sort(result_type(image, table, f))),
     };
     let act = act_at(scope, cursor);
     let v = emit_call(image, out, at + 1, cursor.o, call, act, first, level - 1);
-    let secret = scope.pc | cursor.rc;
-    let d = statements_of(secret);
-    let e = temporaries_of(secret);
+    let d = statements_of(scope.pc | cursor.rc);
     Cursor {
         at: v.at,
         o: v.o,
         n: cursor.n + d,
-        k: cursor.k + e,
         rc: cursor.rc,
     }
 }
@@ -269,7 +269,7 @@ fn emit_if(
     emit_public_if(image, table, types, out, scope, cursor, level)
 }
 
-// A secret if: T and E are variables k and k + 1, and the arms follow in line.
+// A secret if: T and E are the pair of its level, and the arms follow in line.
 fn emit_secret_if(
     image: &[u32],
     table: &[u32; SIZE],
@@ -286,14 +286,15 @@ fn emit_secret_if(
         (now (out .entry)) (readStatement level (paramsIn (now (table .entry))) (scope .me) (now (image .entry)) (cursor .at)))
         × Grown (length (now (image .entry))) cursor r ⌝ }
 {
-    let k = cursor.k;
+    let t = scope.pair;
+    let next = t + 2; // T of the next level
     let act = act_at(scope, cursor);
     let c = emit_condition(
         image,
         out,
         cursor.at + 1,
         cursor.o,
-        k,
+        t,
         act,
         scope.first,
         level - 1,
@@ -301,30 +302,34 @@ fn emit_secret_if(
     let first_arm = Scope {
         me: scope.me,
         pc: true,
-        arm: k,
+        arm: t,
         first: scope.first,
         rv: scope.rv,
+        pair: next,
+        word: scope.word,
+        boolean: scope.boolean,
     };
     let behind = Cursor {
         at: c.at,
         o: c.o,
         n: cursor.n + 2,
-        k: k + 2,
         rc: cursor.rc,
     };
     let x = emit_block(image, table, types, out, first_arm, behind, level - 1);
     let second_arm = Scope {
         me: scope.me,
         pc: true,
-        arm: k + 1,
+        arm: t + 1,
         first: scope.first,
         rv: scope.rv,
+        pair: next,
+        word: scope.word,
+        boolean: scope.boolean,
     };
     let between = Cursor {
         at: x.at,
         o: x.o,
         n: x.n,
-        k: x.k,
         rc: cursor.rc,
     };
     let y = emit_block(image, table, types, out, second_arm, between, level - 1);
@@ -332,7 +337,6 @@ fn emit_secret_if(
         at: y.at,
         o: y.o,
         n: y.n,
-        k: y.k,
         rc: x.rc | y.rc,
     }
 }
@@ -359,7 +363,6 @@ fn emit_public_if(
         at: c.at,
         o: c.o,
         n: 0,
-        k: cursor.k,
         rc: cursor.rc,
     };
     let x = emit_body(image, table, types, out, scope, behind, level - 1);
@@ -367,7 +370,6 @@ fn emit_public_if(
         at: x.at,
         o: x.o,
         n: 0,
-        k: x.k,
         rc: cursor.rc,
     };
     let y = emit_body(image, table, types, out, scope, between, level - 1);
@@ -375,7 +377,6 @@ fn emit_public_if(
         at: y.at,
         o: y.o,
         n: cursor.n + 1,
-        k: y.k,
         rc: x.rc | y.rc,
     }
 }
@@ -409,7 +410,6 @@ fn emit_for(
         at: h.at,
         o: h.o,
         n: 0,
-        k: cursor.k,
         rc: s.rc,
     };
     let b = emit_body(image, table, types, out, scope, behind, level - 1);
@@ -417,7 +417,6 @@ fn emit_for(
         at: b.at,
         o: b.o,
         n: cursor.n + 1,
-        k: b.k,
         rc: s.rc,
     }
 }
@@ -443,7 +442,6 @@ fn emit_body(
         at: cursor.at,
         o: p,
         n: 0,
-        k: cursor.k,
         rc: cursor.rc,
     };
     let c = emit_block(image, table, types, out, scope, inside, level);
@@ -473,7 +471,6 @@ pub fn emit_block(
         at: at + 1,
         o: cursor.o,
         n: cursor.n,
-        k: cursor.k,
         rc: cursor.rc,
     };
     while j < count {

@@ -1,1 +1,1 @@
-pub mod Typing
+pub mod Walk

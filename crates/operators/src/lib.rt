@@ -15,7 +15,7 @@ pub const OP_QUOTIENT: u32 = 9;
 pub const OP_EQUAL: u32 = 11;
 
 // Sorts. A boolean is a word too, 0 for false and 1 for true.
-const WORD: u32 = 0;
+pub const WORD: u32 = 0;
 
 pub const BOOLEAN: u32 = 1;
 

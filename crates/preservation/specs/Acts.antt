@@ -18,13 +18,13 @@ use Rattle.definitions.specs.Sorts.{outside, inside}
 use Rattle.definitions.specs.Labels.{isConstant, constantValue, constantLoop, unbounded, loopOf, boundsInside}
 use Rattle.definitions.specs.Compiling.{act, under, followedBy, one, compiledIf, compiledStatement}
 use Rattle.definitions.specs.Running.{Trace, Evaluated, value, evaluate, operated}
-use Rattle.laws.specs.Tests.{or-true, or-false, or-left, or-right}
+use Rattle.laws.specs.Tests.{or-left, or-right}
 use Rattle.preservation.specs.Relations.{SafeValue, sound, SimValue, safe-bind, sim-through}
 use Rattle.preservation.specs.Evaluations.{MayBound, Within, Bounded}
 use Rattle.preservation.specs.Layouts.{Layout, Scope, InUse, Reserved, Allocation, renamed-injective, actAt}
 use Rattle.preservation.specs.Layouts.{operand, rcAfterBlockAt, secretAt, slot}
 use Rattle.preservation.specs.Rules.{loop-variable}
-use Rattle.preservation.specs.Positions.{code, codes, sizeOfBlock, StatementAt, widened, entered}
+use Rattle.preservation.specs.Positions.{code, codes, StatementAt, widened, entered}
 
 -- by pc and rc: the value of the arm's variable, that of LIVE, or their conjunction
 abbrev pub actOf : Bool → Bool → ℕ → ℕ → ℕ
@@ -244,11 +244,11 @@ module _ (L : Layout) (pc : Bool) (arm : ℕ) (rc : Bool) (k : ℕ) (c : Express
       → code L (conditional c a b) pc arm rc k
       ≡ sequence 0 (assign k (under (pc || rc) (actAt L pc arm rc) (operand L c)))
       (sequence 0 (assign (k + 1) (under (pc || rc) (actAt L pc arm rc) (unary 0 0 (variable 0 k))))
-      (followedBy (codes L a true k rc (k + 2)) (codes L b true (k + 1) rc (k + 2 + sizeOfBlock L true rc a))))
+      (followedBy (codes L a true k rc (k + 2)) (codes L b true (k + 1) rc (k + 2))))
   unfolding compiledStatement compiledIf
-  code-if-secret e = rw (e, or-true pc) refl
+  code-if-secret e = rw e refl
 
   pub code-if-public : secretAt L c ≡ false
-      → code L (conditional c a b) pc arm rc k ≡ one (conditional (operand L c) (codes L a pc arm rc k) (codes L b pc arm rc (k + sizeOfBlock L pc rc a)))
+      → code L (conditional c a b) pc arm rc k ≡ one (conditional (operand L c) (codes L a pc arm rc k) (codes L b pc arm rc k))
   unfolding compiledStatement compiledIf
-  code-if-public e = rw (e, or-false pc) refl
+  code-if-public e = rw e refl

@@ -1,20 +1,21 @@
 -- Where the body of a procedure stands that is compiled: its layout, and the variables that its code has. Assumes nothing.
 use mathlib.Core.Path.{_≡_, refl, _∙_}
 use mathlib.Core.Bool.{Bool, true, false, _&&_, false≢true}
-use mathlib.Core.List.{List, [], _∷_, _++_}
-use Prim.Native.Nat.{ℕ, zero, suc, _+_, _-_, _<_, _≤_}
+use mathlib.Core.List.{[]}
+use Prim.Native.Nat.{ℕ, zero, suc, _+_, _*_, _-_, _<_, _≤_}
 use native.Mathlib.Omega.{arith}
-use lib.Dec.{ltb, leb}
-use lib.ListN.{length, getD, take, drop, replicate, length-append, length-drop, length-replicate}
-use lib.Seq.{length-take-le}
+use lib.Dec.{ltb, leb, eqb}
+use lib.ListN.{length, getD, replicate, length-replicate}
 use borrow.Author.Tests.{ltb-true, ltb-false, leb-true}
 use Rattle.definitions.specs.Choice.{pick}
-use Rattle.definitions.specs.Image.{Block, Procedure, Image, guarded}
+use Rattle.definitions.specs.Operators.{wordSort, booleanSort}
+use Rattle.definitions.specs.Image.{typeSort, Block, Procedure, Image, guarded}
 use Rattle.definitions.specs.Sorts.{ordinary, markBlock, procedureSortFaults}
 use Rattle.definitions.specs.Labels.{unbounded, procedureLabelFaults}
-use Rattle.definitions.specs.Compiling.{secretBoolean, renamed, defers, guards, returnVariable, firstTemporary}
-use Rattle.definitions.specs.Compiling.{firstMoved, blockTemporaries, compiledTypes}
+use Rattle.definitions.specs.Compiling.{renamed, defers, guards, returnVariable, firstPair, levels, needed, firstMoved}
+use Rattle.definitions.specs.Compiling.{compiledTypes, temporaryOf}
 use Rattle.laws.specs.Tests.{and-left, conjuncts}
+use Rattle.laws.specs.CompiledLocals.{at-most-one, temporaryCount, types-count}
 use Rattle.preservation.specs.WellRead.{wellReadProcedure, countedBlock}
 use Rattle.preservation.specs.Evaluations.{MayBound}
 use Rattle.preservation.specs.Layouts.{Layout, Scope, Reserved, Allocation}
@@ -40,14 +41,15 @@ layoutOf I P =
       first = firstMoved P;
       rv = returnVariable P;
       defers = defers (I .arrays) P;
+      temporary = temporaryOf (I .procedures) (I .arrays) P;
     }
 
 abbrev pub scopeOf : Image → Procedure → Scope
-scopeOf I P = record { marks = markBlock (P .body) (replicate 256 ordinary); bounds = replicate 256 unbounded; limit = firstTemporary (I .arrays) P }
+scopeOf I P = record { marks = markBlock (P .body) (replicate 256 ordinary); bounds = replicate 256 unbounded; limit = firstPair (I .arrays) P }
 
 -- a procedure's body, compiled, before it is closed
 abbrev pub bodyCode : Image → Procedure → Block
-bodyCode I P = codes (layoutOf I P) (P .body) (guarded P) (P .parameters) false (firstTemporary (I .arrays) P)
+bodyCode I P = codes (layoutOf I P) (P .body) (guarded P) (P .parameters) false (firstPair (I .arrays) P)
 
 pub getD-default : {A : Type 0} (n x : ℕ) (d : A) → getD (replicate n d) x d ≡ d
 getD-default zero x d = refl
@@ -71,48 +73,27 @@ module _ {I : Image} {P : Procedure} (h : Accepted I P) where
       let w = h .well in
       leb-true (P .parameters) (length (P .types)) (search conjuncts)
 
-  -- the compiled variables, one after the other
-  compiled-length : length (compiledTypes (I .procedures) (I .arrays) P) ≡ firstTemporary (I .arrays) P + sizeOfBlock (layoutOf I P) (guarded P) false (P .body)
-  unfolding compiledTypes
-  compiled-length = go (guarded P) (defers (I .arrays) P) (blockTemporaries (I .procedures) (I .arrays) (P .types) (guarded P) false (P .body))
-    where
-      go : (g d : Bool) (ts : List ℕ)
-          → length (take (P .parameters) (P .types) ++ (pick g (secretBoolean ∷ []) [] ++ (drop (P .parameters) (P .types) ++ (pick d (P .result ∷ secretBoolean ∷ []) [] ++ ts))))
-          ≡ length (P .types) + pick g 1 0 + pick d 2 0 + length ts
-      go g d ts =
-          let p = typed-parameters in
-          let e₁ = length-append (take (P .parameters) (P .types)) (pick g (secretBoolean ∷ []) [] ++ (drop (P .parameters) (P .types) ++ (pick d (P .result ∷ secretBoolean ∷ []) [] ++ ts))) in
-          let e₂ = length-append (pick g (secretBoolean ∷ []) []) (drop (P .parameters) (P .types) ++ (pick d (P .result ∷ secretBoolean ∷ []) [] ++ ts)) in
-          let e₃ = length-append (drop (P .parameters) (P .types)) (pick d (P .result ∷ secretBoolean ∷ []) [] ++ ts) in
-          let e₄ = length-append (pick d (P .result ∷ secretBoolean ∷ []) []) ts in
-          let e₅ = length-take-le (P .parameters) (P .types) p in
-          let e₆ = length-drop (P .parameters) (P .types) in
-          let e₇ = guard-length g in
-          let e₈ = return-length d in
-          omega arith
-        where
-          guard-length : (g : Bool) → length (pick g (secretBoolean ∷ []) []) ≡ pick g 1 0
-          guard-length true = refl
-          guard-length false = refl
-
-          return-length : (d : Bool) → length (pick d (P .result ∷ secretBoolean ∷ []) []) ≡ pick d 2 0
-          return-length true = refl
-          return-length false = refl
-
   pub guards-few : guards P ≤ 1
-  guards-few = go (guarded P)
-    where
-      go : (g : Bool) → pick g 1 0 ≤ 1
-      go true = omega arith
-      go false = omega arith
+  guards-few = at-most-one (guarded P)
 
-  body-room : firstTemporary (I .arrays) P + sizeOfBlock (layoutOf I P) (guarded P) false (P .body) ≤ 255
-  body-room =
+  -- the compiled variables: those up to the pairs, the pairs, and the temporaries
+  body-variables : firstPair (I .arrays) P + sizeOfBlock (layoutOf I P) (P .body)
+      + temporaryCount (needed (I .procedures) (I .arrays) P wordSort) (needed (I .procedures) (I .arrays) P booleanSort) ≤ 255
+  body-variables =
       let f = leb-true (length (compiledTypes (I .procedures) (I .arrays) P) - (P .parameters + guards P)) 246 (h .fits) in
-      let e = compiled-length in
+      let e = types-count (I .procedures) (I .arrays) P in
       let p = few-parameters in
       let g = guards-few in
       omega arith
+
+  -- a temporary that the body needs is one of the frame
+  body-temporaries : (w : ℕ) → needed (I .procedures) (I .arrays) P (typeSort w) ≡ true → temporaryOf (I .procedures) (I .arrays) P (typeSort w) < 255
+  body-temporaries w = go (typeSort w) (omega arith)
+    where
+      go : (sort : ℕ) → sort < 2 → needed (I .procedures) (I .arrays) P sort ≡ true → temporaryOf (I .procedures) (I .arrays) P sort < 255
+      go zero i n = let b = rw n at body-variables in omega arith
+      go (suc zero) i n = let b = rw n at body-variables in omega arith
+      go (suc (suc sort)) i n = absurd (omega arith)
 
   -- the source's variables stand below RV, and are not the guard
   variables-low : (x : ℕ) → x < length (P .types) → renamed (firstMoved P) x < returnVariable P
@@ -130,7 +111,7 @@ module _ {I : Image} {P : Procedure} (h : Accepted I P) where
       go true = moved-low (P .parameters) (ltb x (P .parameters))
       go false = stays-low (ltb x (length (P .types))) refl
 
-  guard-reserved : guarded P ≡ true → Reserved (layoutOf I P) (firstTemporary (I .arrays) P) (P .parameters)
+  guard-reserved : guarded P ≡ true → Reserved (layoutOf I P) (firstPair (I .arrays) P) (P .parameters)
   guard-reserved g =
       let p = typed-parameters in
       rw g ((omega arith), λ x i e. not-moved (P .parameters) x (ltb x (P .parameters)) refl e, λ d e. absurd (omega arith), λ d e. absurd (omega arith))
@@ -139,9 +120,10 @@ module _ {I : Image} {P : Procedure} (h : Accepted I P) where
       not-moved q x true f e = let j = ltb-true x q f in omega arith
       not-moved q x false f e = let j = ltb-false x q f in omega arith
 
-  body-allocation : Allocation (layoutOf I P) (scopeOf I P) (guarded P) (P .parameters) false (firstTemporary (I .arrays) P) (sizeOfBlock (layoutOf I P) (guarded P) false (P .body)) (defers (I .arrays) P)
+  body-allocation : Allocation (layoutOf I P) (scopeOf I P) (guarded P) (P .parameters) false (firstPair (I .arrays) P)
+      (sizeOfBlock (layoutOf I P) (P .body)) (defers (I .arrays) P)
   body-allocation =
-      let r = body-room in
+      let r = body-variables in
       record {
         low = variables-low;
         few = omega arith;
@@ -152,12 +134,19 @@ module _ {I : Image} {P : Procedure} (h : Accepted I P) where
         returns = λ d. rw d (omega arith);
         armed = guard-reserved;
         free = omega arith;
-        room = r;
+        room = omega arith;
+        above = λ sort. temporary-above (eqb sort wordSort);
         begins = λ e. absurd (false≢true e);
         ends = λ e. e;
       }
+    where
+      temporary-above : (word : Bool) → firstPair (I .arrays) P + sizeOfBlock (layoutOf I P) (P .body)
+          ≤ pick word (firstPair (I .arrays) P + 2 * levels (I .arrays) P)
+          (firstPair (I .arrays) P + 2 * levels (I .arrays) P + pick (needed (I .procedures) (I .arrays) P wordSort) 1 0)
+      temporary-above true = omega arith
+      temporary-above false = omega arith
 
-  pub body-block : BlockAt (layoutOf I P) (scopeOf I P) (guarded P) (P .parameters) false (firstTemporary (I .arrays) P) (P .body)
+  pub body-block : BlockAt (layoutOf I P) (scopeOf I P) (guarded P) (P .parameters) false (firstPair (I .arrays) P) (P .body)
   unfolding procedureSortFaults procedureLabelFaults wellReadProcedure
   body-block =
       let w = h .well in
@@ -170,4 +159,5 @@ module _ {I : Image} {P : Procedure} (h : Accepted I P) where
               (let r = body-allocation .few in let e = length-replicate 256 ordinary in omega arith) (λ x q. q) (h .sorts);
         };
         allocation = body-allocation;
+        temporaries = body-temporaries;
       }

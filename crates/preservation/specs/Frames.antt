@@ -21,7 +21,7 @@ use Rattle.preservation.specs.Positions.{StatementAt, widened, entered}
 use Rattle.preservation.specs.Acts.{Unchanged, reserved-in-use, variable-in-use, live-in-use, rv-in-use}
 use Rattle.preservation.specs.Acts.{unchanged-bounded, entered-bounded}
 
--- The source runs: its variables have their values in the compiled frame, and nothing has been returned. The guard and the temporaries in use
+-- The source runs: its variables have their values in the compiled frame, and nothing has been returned. The guard and the pairs in use
 -- have the values `val`.
 pub record Live (L : Layout) (S : Scope) (val : ℕ → ℕ) (us vs : List ℕ) : Type 0 where
   pub source : length us ≡ 255

@@ -20,11 +20,11 @@ use Rattle.preservation.specs.Relations.{emitted}
 use Rattle.preservation.specs.Contexts.{rc-rises, rc-rises-block}
 use Rattle.preservation.specs.Evaluations.{constant-value, index-value, safe-index, short-array, safe-value}
 use Rattle.preservation.specs.Evaluations.{safe-values}
-use Rattle.preservation.specs.Layouts.{Layout, Scope, actAt, operand, operands, rcAfterAt, rcAfterBlockAt}
-use Rattle.preservation.specs.Layouts.{secretAt, slot}
+use Rattle.preservation.specs.Layouts.{Layout, Scope, actAt, operand, operands, temporaryAt, rcAfterAt}
+use Rattle.preservation.specs.Layouts.{rcAfterBlockAt, secretAt, slot}
 use Rattle.preservation.specs.Rules.{ExpressionRules, assign-value, store-value, store-bounded, if-condition}
 use Rattle.preservation.specs.Rules.{loop-constants, return-value, call-labels, call-guarded, call-count}
-use Rattle.preservation.specs.Positions.{code, codes, sizeOfBlock, StatementAt, BlockAt, widened, entered}
+use Rattle.preservation.specs.Positions.{code, codes, StatementAt, BlockAt, widened, entered, temporary-free}
 use Rattle.preservation.specs.Positions.{first-statement, rest-block, secret-then, secret-else, public-then}
 use Rattle.preservation.specs.Positions.{public-else, loop-block, loop-allocation}
 use Rattle.preservation.specs.Runs.{Next, onward, safe-one, safe-step, safe-followed, safe-assign}
@@ -117,21 +117,24 @@ module _ (L : Layout) {U : Type 0} (D : Trace U) (budget : ℕ) (K : Callee U) (
   unfolding compiledStatement compiledCall runStatement
   inactive-call f x es l S pc arm rc k h z t vs cs c =
       rw (off-secret (c .off))
-      (safe-step D budget (L .arrays) K (call f k (operands L es ++ (actAt L pc arm rc ∷ [])))
-      (one (assign (slot L x) (select 0 (actAt L pc arm rc) (variable 0 k) (variable 0 (slot L x))))) z t vs cs cs
+      (safe-step D budget (L .arrays) K (call f (temporaryAt L f) (operands L es ++ (actAt L pc arm rc ∷ [])))
+      (one (assign (slot L x) (select 0 (actAt L pc arm rc) (variable 0 (temporaryAt L f)) (variable 0 (slot L x))))) z t vs cs cs
       (λ y. safe-within y (safe-values D (L .types) (L .arrays) (S .bounds) (L .first) vs cs (c .bounded) (procedureAt (L .procedures) f .types) 0 es
       (rw (off-secret (c .off)) at (call-labels (h .rules))) (actAt L pc arm rc ∷ []) (0 ∷ []) last t) λ ws u r.
       safe-within y (emitted D 7 0 f u) λ d w _.
-      rw (r .1) (safe-go (kq f (r .0) (call-guarded (h .rules) (off-secret (c .off))) (r .2 ∙ call-count (h .rules)) y w cs) λ g n v m. inactive-received k vs cs (c .size) (h .allocation .free) g n v m))
-      λ y u us n. safe-one D budget (L .arrays) K (assign (slot L x) (select 0 (actAt L pc arm rc) (variable 0 k) (variable 0 (slot L x)))) y u us cs λ w.
+      rw (r .1) (safe-go (kq f (r .0) (call-guarded (h .rules) (off-secret (c .off))) (r .2 ∙ call-count (h .rules)) y w cs)
+      λ g n v m. inactive-received (temporaryAt L f) vs cs (c .size) (temporary-free (h .allocation) f) g n v m))
+      λ y u us n. safe-one D budget (L .arrays) K (assign (slot L x) (select 0 (actAt L pc arm rc) (variable 0 (temporaryAt L f)) (variable 0 (slot L x))))
+      y u us cs λ w.
       safe-assign D budget (L .arrays) K (slot L x) _ w u us cs
-      (off-select D (L .arrays) (off-still (h .allocation) c n .off) cs (variable 0 k) (variable 0 (slot L x)) (getD us (slot L x) 0) (λ t. any us t) (old-value (slot L x) us cs) u)
+      (off-select D (L .arrays) (off-still (h .allocation) c n .off) cs (variable 0 (temporaryAt L f)) (variable 0 (slot L x)) (getD us (slot L x) 0)
+      (λ t. any us t) (old-value (slot L x) us cs) u)
       λ v r. unchanged-trans n (unchanged-same us (slot L x) v (n .size) r))
     where
       last : (t : U) → evaluateAll D (L .arrays) (actAt L pc arm rc ∷ []) vs cs t ≡ value (0 ∷ []) t
       last t = unfold evaluateAll in rw (off-act D (L .arrays) (c .off) cs t) refl
 
-      any : (us : List ℕ) (t : U) → SafeValue (λ (_ : ℕ). Unit {0}) (evaluate D (L .arrays) (variable 0 k) us cs t)
+      any : (us : List ℕ) (t : U) → SafeValue (λ (_ : ℕ). Unit {0}) (evaluate D (L .arrays) (variable 0 (temporaryAt L f)) us cs t)
       any us t = unfold evaluate in sound tt
 
   pub inactive-if-secret : (c : Expression) (a b : Block) → InactiveBlock a → InactiveBlock b → secretAt L c ≡ true → Inactive (conditional c a b)
@@ -147,10 +150,10 @@ module _ (L : Layout) {U : Type 0} (D : Trace U) (budget : ℕ) (K : Callee U) (
         getD-set-other us (k + 1) k v 0 (λ i. absurd (omega arith)) ∙ n .1,
         rw r (getD-set-same us (k + 1) 0 0 (let i = n .0 .size in let j = room in omega arith)),
       ))
-      λ w x ws m. safe-followed D budget (L .arrays) K (codes L a true k rc (k + 2)) (codes L b true (k + 1) rc (k + 2 + sizeOfBlock L true rc a)) w x ws cs cs
+      λ w x ws m. safe-followed D budget (L .arrays) K (codes L a true k rc (k + 2)) (codes L b true (k + 1) rc (k + 2)) w x ws cs cs
       (qa (widened S (k + 2)) true k rc (k + 2) (secret-then h e) w x ws cs (off-arm (off-still (h .allocation) o (m .0)) k (k + 2) (m .1)))
       λ y′ u′ xs p. safe-map (λ q. finish-arms ws xs (m .0) p q)
-      (qb (widened S (k + 2)) true (k + 1) rc (k + 2 + sizeOfBlock L true rc a) (secret-else h e) y′ u′ xs cs
+      (qb (widened S (k + 2)) true (k + 1) rc (k + 2) (secret-else h e) y′ u′ xs cs
       (off-still (secret-else h e .allocation) (off-arm (off-still (h .allocation) o (m .0)) (k + 1) (k + 2) (m .2)) p)))
     where
       room : k + 2 ≤ 255
@@ -165,11 +168,11 @@ module _ (L : Layout) {U : Type 0} (D : Trace U) (budget : ℕ) (K : Callee U) (
   pub inactive-if-public : (c : Expression) (a b : Block) → InactiveBlock a → InactiveBlock b → secretAt L c ≡ false → Inactive (conditional c a b)
   inactive-if-public c a b qa qb e l S pc arm rc k h z t vs cs o =
       rw (code-if-public L pc arm rc k c a b e)
-      (safe-one D budget (L .arrays) K (conditional (operand L c) (codes L a pc arm rc k) (codes L b pc arm rc (k + sizeOfBlock L pc rc a))) z t vs cs λ y.
-      safe-conditional D budget (L .arrays) K (operand L c) (codes L a pc arm rc k) (codes L b pc arm rc (k + sizeOfBlock L pc rc a)) y t vs cs
+      (safe-one D budget (L .arrays) K (conditional (operand L c) (codes L a pc arm rc k) (codes L b pc arm rc k)) z t vs cs λ y.
+      safe-conditional D budget (L .arrays) K (operand L c) (codes L a pc arm rc k) (codes L b pc arm rc k) y t vs cs
       (inactive-value (if-condition (h .rules)) o cs t)
       (λ w u. qa S pc arm rc k (public-then h e) w u vs cs o)
-      (λ w u. qb S pc arm rc (k + sizeOfBlock L pc rc a) (public-else h e) w u vs cs o))
+      (λ w u. qb S pc arm rc k (public-else h e) w u vs cs o))
 
   pub inactive-if : (c : Expression) (a b : Block) → InactiveBlock a → InactiveBlock b → Inactive (conditional c a b)
   inactive-if c a b qa qb = go (secretAt L c) refl

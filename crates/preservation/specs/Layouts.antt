@@ -11,14 +11,14 @@ use lib.ListN.{length, getD}
 use borrow.Author.Tests.{ltb-true, ltb-false}
 use Rattle.definitions.specs.Choice.{pick}
 use Rattle.definitions.specs.declared.ConstantLoop.{ConstantLoop}
-use Rattle.definitions.specs.Image.{Expression, Statement, Block, Procedure}
+use Rattle.definitions.specs.Image.{typeSort, Expression, Statement, Block, Procedure, procedureAt}
 use Rattle.definitions.specs.Sorts.{outside, inside}
 use Rattle.definitions.specs.Labels.{secretIn, rcAfter, rcAfterBlock, unbounded}
 use Rattle.definitions.specs.Compiling.{renamed, moved, movedAll, act}
 use Rattle.preservation.specs.Evaluations.{MayBound}
 
 -- the image's form, procedures and array words; the procedure's parameters, type words and result's type word; the first variable that
--- moves, RV, and whether a return is deferred
+-- moves, RV, whether a return is deferred, and the temporary for results of each sort
 pub record Layout : Type 0 where
   pub form : ℕ
   pub procedures : List Procedure
@@ -29,9 +29,10 @@ pub record Layout : Type 0 where
   pub first : ℕ
   pub rv : ℕ
   pub defers : Bool
+  pub temporary : ℕ → ℕ
 
 -- the compiler's functions, and the context's, over a layout: the compiled variable of one of the source; an expression, and a list of them;
--- the act; the rc after a statement and after a block; whether an expression is secret
+-- the act; the temporary of a call of f; the rc after a statement and after a block; whether an expression is secret
 abbrev pub slot : Layout → ℕ → ℕ
 slot L x = renamed (L .first) x
 
@@ -43,6 +44,9 @@ operands L es = movedAll (L .first) es
 
 abbrev pub actAt : Layout → Bool → ℕ → Bool → Expression
 actAt L pc arm rc = act pc arm rc (L .rv + 1)
+
+abbrev pub temporaryAt : Layout → ℕ → ℕ
+temporaryAt L f = L .temporary (typeSort (procedureAt (L .procedures) f .result))
 
 abbrev pub rcAfterAt : Layout → Bool → Bool → Statement → Bool
 rcAfterAt L pc rc s = rcAfter (L .types) (L .arrays) pc rc s
@@ -73,7 +77,7 @@ renamed-injective first x y e = go (ltb x first) refl (ltb y first) refl e
 abbrev pub InUse : Layout → Scope → ℕ → Type 0
 InUse L S y = (y < S .limit) × ((x : ℕ) → x < length (L .types) → y ≡ slot L x → getD (S .marks) x 0 ≢ outside)
 
--- a compiled variable in use that stands for no variable of the source, nor for RV or LIVE: the guard, or a temporary
+-- a compiled variable in use that stands for no variable of the source, nor for RV or LIVE: the guard, or T or E of an if around
 abbrev pub Reserved : Layout → ℕ → ℕ → Type 0
 Reserved L limit y =
     (y < limit)
@@ -81,7 +85,8 @@ Reserved L limit y =
     × (L .defers ≡ true → y ≢ L .rv)
     × (L .defers ≡ true → y ≢ L .rv + 1)
 
--- What holds at a place: pc with its arm's variable, rc, the next temporary, the number of temporaries that the code there takes, and the rc after it.
+-- What holds at a place: pc with its arm's variable, rc, T of the next level, the number of variables of the pairs that the code there takes, and
+-- the rc after it.
 pub record Allocation (L : Layout) (S : Scope) (pc : Bool) (arm : ℕ) (rc : Bool) (k size : ℕ) (end : Bool) : Type 0 where
   -- the source's variables stand below RV
   pub low : (x : ℕ) → x < length (L .types) → slot L x < L .rv
@@ -95,5 +100,7 @@ pub record Allocation (L : Layout) (S : Scope) (pc : Bool) (arm : ℕ) (rc : Boo
   pub armed : pc ≡ true → Reserved L (S .limit) arm
   pub free : S .limit ≤ k
   pub room : k + size ≤ 255
+  -- the temporaries stand after the pairs
+  pub above : (sort : ℕ) → k + size ≤ L .temporary sort
   pub begins : rc ≡ true → L .defers ≡ true
   pub ends : end ≡ true → L .defers ≡ true

@@ -66,7 +66,8 @@ module _ (I : Image) where
   compiled-count [] = refl
   compiled-count (q ∷ qs) = ap suc (compiled-count qs)
 
--- an image that reading gave and no rule refuses, whose compiled form has at most 246 locals in each procedure
+-- an image that reading gave and no rule refuses, whose compiled form has at most 246 locals in each procedure (as it always has: laws/CompiledLocals;
+-- asked here, since the limits that reading keeps are not)
 pub record SoundSource (I : Image) : Type 0 where
   pub well : wellRead I ≡ true
   pub clean : faultOf I .number ≡ 0

@@ -9,7 +9,7 @@ use native.Mathlib.Omega.{arith}
 use lib.ListN.{length, getD, set, length-append, length-set}
 use lib.Seq.{getD-set-other}
 use Rattle.definitions.specs.Image.{boolean, variable, return, assign, Procedure, Image, guarded}
-use Rattle.definitions.specs.Compiling.{one, followedBy, closed, defers, guards, returnVariable, firstTemporary}
+use Rattle.definitions.specs.Compiling.{one, followedBy, closed, defers, guards, returnVariable, firstPair}
 use Rattle.definitions.specs.Compiling.{compiledBody}
 use Rattle.definitions.specs.Running.{Trace, on, andGo, after, evaluate, Outcome, next, back, Callee, frame, finish}
 use Rattle.definitions.specs.Running.{runStatement, runBlock}
@@ -85,7 +85,7 @@ module _ {I : Image} {P : Procedure} (h : Accepted I P) where
             sim-assign-right D budget′ (I .arrays) K (runBlock C budget (I .arrays) J (P .body) z t (frame ws) cs) (returnVariable P + 1) (boolean 0 1) (followedBy (bodyCode I P) (one (return (variable 0 (returnVariable P)))))
             y u (frame (ws ++ xs)) cs live-true
             λ v y₁ u₁ q. rw (q, run-followed D budget′ (I .arrays) K (bodyCode I P) (one (return (variable 0 (returnVariable P)))) y₁ u₁ (set (frame (ws ++ xs)) (returnVariable P + 1) 1) cs)
-            (sim-then (simulated-block (layoutOf I P) C D budget budget′ J K ks kq (P .body) (scopeOf I P) (guarded P) (P .parameters) false (firstTemporary (I .arrays) P) (body-block h)
+            (sim-then (simulated-block (layoutOf I P) C D budget budget′ J K ks kq (P .body) (scopeOf I P) (guarded P) (P .parameters) false (firstPair (I .arrays) P) (body-block h)
             (λ y. getD (set (frame (ws ++ xs)) (returnVariable P + 1) 1) y 0) on-guard z t y₁ u₁ (frame ws) (set (frame (ws ++ xs)) (returnVariable P + 1) 1) cs (opened h ws xs e f d))
             λ o o′ z₂ t₂ y₂ u₂ r. close d o o′ z₂ t₂ y₂ u₂ r)
           where
@@ -96,7 +96,7 @@ module _ {I : Image} {P : Procedure} (h : Accepted I P) where
             on-guard p = rw (getD-set-other (frame (ws ++ xs)) (returnVariable P + 1) (P .parameters) 1 0 (λ q. let i = typed-parameters h in absurd (omega arith)), frame-value (ws ++ xs) (P .parameters)) (g p)
         go false d = unfold closed in
             sim-map (open-end d)
-            (simulated-block (layoutOf I P) C D budget budget′ J K ks kq (P .body) (scopeOf I P) (guarded P) (P .parameters) false (firstTemporary (I .arrays) P) (body-block h)
+            (simulated-block (layoutOf I P) C D budget budget′ J K ks kq (P .body) (scopeOf I P) (guarded P) (P .parameters) false (firstPair (I .arrays) P) (body-block h)
             (λ y. getD (frame (ws ++ xs)) y 0) on-guard z t y u (frame ws) (frame (ws ++ xs)) cs (started h ws xs (frame (ws ++ xs)) e f (frame-length (ws ++ xs) short) (λ y _. refl) (λ q. absurd (true≢false (sym q ∙ d)))))
           where
             on-guard : guarded P ≡ true → getD (frame (ws ++ xs)) (P .parameters) 0 ≢ 0
@@ -126,7 +126,7 @@ module _ {I : Image} {P : Procedure} (h : Accepted I P) where
             safe-step D budget′ (I .arrays) K {P = λ vs. vs ≡ set (frame (ws ++ (0 ∷ []))) (returnVariable P + 1) 1} (assign (returnVariable P + 1) (boolean 0 1)) (followedBy (bodyCode I P) (one (return (variable 0 (returnVariable P))))) y u (frame (ws ++ (0 ∷ []))) cs cs
             (λ w. safe-assign D budget′ (I .arrays) K (returnVariable P + 1) (boolean 0 1) w u (frame (ws ++ (0 ∷ []))) cs live-true λ v q. rw q refl)
             λ y₁ u₁ vs q. rw q (safe-followed D budget′ (I .arrays) K (bodyCode I P) (one (return (variable 0 (returnVariable P)))) y₁ u₁ (set (frame (ws ++ (0 ∷ []))) (returnVariable P + 1) 1) cs cs
-            (inactive-block (layoutOf I P) D budget′ K kq (P .body) (scopeOf I P) (guarded P) (P .parameters) false (firstTemporary (I .arrays) P) (body-block h) y₁ u₁ (set (frame (ws ++ (0 ∷ []))) (returnVariable P + 1) 1) cs
+            (inactive-block (layoutOf I P) D budget′ K kq (P .body) (scopeOf I P) (guarded P) (P .parameters) false (firstPair (I .arrays) P) (body-block h) y₁ u₁ (set (frame (ws ++ (0 ∷ []))) (returnVariable P + 1) 1) cs
             (off-start h g ws (set (frame (ws ++ (0 ∷ []))) (returnVariable P + 1) 1) e (length-set (frame (ws ++ (0 ∷ []))) (returnVariable P + 1) 1 ∙ size) (λ y i. getD-set-other (frame (ws ++ (0 ∷ []))) (returnVariable P + 1) y 1 0 i)))
             λ y₂ u₂ us _. safe-map (λ o r. rw r leavesBack) (closing D budget′ (I .arrays) K (returnVariable P) (getD us (returnVariable P) 0) us cs refl y₂ u₂))
           where
@@ -134,7 +134,7 @@ module _ {I : Image} {P : Procedure} (h : Accepted I P) where
             live-true = unfold evaluate in sound refl
         go false d = unfold closed in
             safe-map leave
-            (inactive-block (layoutOf I P) D budget′ K kq (P .body) (scopeOf I P) (guarded P) (P .parameters) false (firstTemporary (I .arrays) P) (body-block h) y u (frame (ws ++ (0 ∷ []))) cs
+            (inactive-block (layoutOf I P) D budget′ K kq (P .body) (scopeOf I P) (guarded P) (P .parameters) false (firstPair (I .arrays) P) (body-block h) y u (frame (ws ++ (0 ∷ []))) cs
             (off-start h g ws (frame (ws ++ (0 ∷ []))) e size (λ y _. refl)))
 
     -- a guarded procedure's compiled form, called with a guard of 0, leaves the cells as they were

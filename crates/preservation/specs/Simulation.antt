@@ -3,7 +3,7 @@ use mathlib.Core.Path.{_≡_, refl, sym, _∙_, ap}
 use mathlib.Core.Logic.{_≢_}
 use mathlib.Core.Bool.{Bool, true, false, _||_, not}
 use mathlib.Core.List.{List, [], _∷_, _++_, append-nil}
-use Prim.Native.Nat.{ℕ, zero, suc, _+_, _-_, _≤_}
+use Prim.Native.Nat.{ℕ, zero, suc, _+_, _-_, _<_, _≤_}
 use native.Mathlib.Omega.{arith}
 use lib.Dec.{eqb}
 use lib.ListN.{length, getD, set}
@@ -28,12 +28,12 @@ use Rattle.preservation.specs.Contexts.{rc-rises-block, rc-again, rc-sec
 use Rattle.preservation.specs.Contexts.{rc-public-else}
 use Rattle.preservation.specs.Evaluations.{index-value, safe-index, short-array, sim-index, sim-value, sim-bound}
 use Rattle.preservation.specs.Evaluations.{sim-values}
-use Rattle.preservation.specs.Layouts.{Layout, Scope, Reserved, Allocation, actAt, operand, operands, rcAfterAt}
-use Rattle.preservation.specs.Layouts.{rcAfterBlockAt, secretAt, slot}
+use Rattle.preservation.specs.Layouts.{Layout, Scope, Reserved, Allocation, actAt, operand, operands, temporaryAt}
+use Rattle.preservation.specs.Layouts.{rcAfterAt, rcAfterBlockAt, secretAt, slot}
 use Rattle.preservation.specs.Rules.{ExpressionRules, assign-variable, assign-value, store-index, store-value}
 use Rattle.preservation.specs.Rules.{store-bounded, if-condition, loop-from, loop-to, return-value, call-variable}
 use Rattle.preservation.specs.Rules.{call-sorts, call-guarded, call-count}
-use Rattle.preservation.specs.Positions.{code, codes, sizeOf, sizeOfBlock, StatementAt, BlockAt, widened, entered}
+use Rattle.preservation.specs.Positions.{code, codes, StatementAt, BlockAt, widened, entered, temporary-free}
 use Rattle.preservation.specs.Positions.{first-statement, rest-block, secret-then, secret-else, public-then}
 use Rattle.preservation.specs.Positions.{public-else, loop-block, loop-allocation, call-room}
 use Rattle.preservation.specs.Runs.{Next, onward, run-followed, run-step, run-conditional, sim-one, sim-assign}
@@ -57,8 +57,8 @@ pub record SimCallee (ps : List Procedure) (T U : Type 0) (J : Callee T) (K : Ca
       → (z : ℕ) (t : T) (y : ℕ) (u : U) (cs : List ℕ) → Sim SameGiven (J f ws z t cs) (K f (ws ++ (g ∷ [])) y u cs)
 
 -- the outcomes of a call in a secret context, before its result is selected
-data CallReturned (x k : ℕ) (us vs : List ℕ) : Outcome → Outcome → Type 0 where
-  callReturned : (v : ℕ) {cs : List ℕ} → CallReturned x k us vs (next (set us x v) cs) (next (set vs k v) cs)
+data CallReturned (x j : ℕ) (us vs : List ℕ) : Outcome → Outcome → Type 0 where
+  callReturned : (v : ℕ) {cs : List ℕ} → CallReturned x j us vs (next (set us x v) cs) (next (set vs j v) cs)
 
 -- where the source runs the act is not 0
 pub live-on : {L : Layout} {S : Scope} {pc : Bool} {arm : ℕ} {rc : Bool} {k size : ℕ} {end : Bool} {val : ℕ → ℕ} {us vs : List ℕ}
@@ -169,12 +169,14 @@ module _ (L : Layout) {T U : Type 0} (C : Trace T) (D : Trace U) (budget budget�
       got : (g g′ : Given) (z₁ y₁ : ℕ) (t₃ : T) (u₃ : U) → SameGiven g g′ → Sim (EndAlike L S val rc) (received x us g z₁ t₃) (received (slot L x) vs g′ y₁ u₃)
       got (gave v _) (gave _ _) z₁ y₁ t₃ u₃ sameGiven = unfold received in meet (going (live-assign (h .allocation) m x v (call-variable (h .rules))))
 
-  pub simulate-call-secret : (f x : ℕ) (es : List Expression) (l : ℕ) (S : Scope) (pc : Bool) (arm : ℕ) (rc : Bool) (k : ℕ) → StatementAt L S pc arm rc k l (call f x es) → (val : ℕ → ℕ) → (pc ≡ true → val arm ≢ 0) → (pc || rc) ≡ true
+  -- a call's result goes to a variable that is not in use, and is selected from there
+  pub simulate-call-secret : (f x : ℕ) (es : List Expression) (l : ℕ) (S : Scope) (pc : Bool) (arm : ℕ) (rc : Bool) (k : ℕ) → StatementAt L S pc arm rc k l (call f x es)
+      → (val : ℕ → ℕ) → (pc ≡ true → val arm ≢ 0) → (pc || rc) ≡ true → (j : ℕ) → S .limit ≤ j → j < 255
       → (z : ℕ) (t : T) (y : ℕ) (u : U) (us vs cs : List ℕ) → Live L S val us vs
       → Sim (EndAlike L S val rc) (runStatement C budget (L .arrays) J l (call f x es) z t us cs)
-      (target (sequence 0 (call f k (operands L es ++ (actAt L pc arm rc ∷ []))) (one (assign (slot L x) (select 0 (actAt L pc arm rc) (variable 0 k) (variable 0 (slot L x)))))) y u vs cs)
+      (target (sequence 0 (call f j (operands L es ++ (actAt L pc arm rc ∷ []))) (one (assign (slot L x) (select 0 (actAt L pc arm rc) (variable 0 j) (variable 0 (slot L x)))))) y u vs cs)
   unfolding runStatement runBlock
-  simulate-call-secret f x es l S pc arm rc k h val o s z t y u us vs cs m =
+  simulate-call-secret f x es l S pc arm rc k h val o s j free room z t y u us vs cs m =
       tick-right budget′ 0 y u _ _ λ w. sim-then
       (sim-within z w (sim-values C D (L .types) (L .arrays) (S .marks) (L .first) (length (L .arrays)) us vs cs (m .vars) (procedureAt (L .procedures) f .types) 0 es (call-sorts (h .rules)) (actAt L pc arm rc ∷ []) (n ∷ []) last t u) λ a b t₁ u₁ r.
       sim-within z w (both (emitted C 7 l f t₁) (emitted D 7 0 f u₁)) λ _ _ t₂ u₂ _.
@@ -190,18 +192,18 @@ module _ (L : Layout) {T U : Type 0} (C : Trace T) (D : Trace U) (budget budget�
       last : (w : U) → evaluateAll D (L .arrays) (actAt L pc arm rc ∷ []) vs cs w ≡ value (n ∷ []) w
       last w = unfold evaluateAll in rw (act-value D (L .arrays) pc arm rc (L .rv + 1) vs cs w) refl
 
-      got : (g g′ : Given) (z₁ y₁ : ℕ) (t₃ : T) (u₃ : U) → SameGiven g g′ → Sim (CallReturned x k us vs) (received x us g z₁ t₃) (received k vs g′ y₁ u₃)
+      got : (g g′ : Given) (z₁ y₁ : ℕ) (t₃ : T) (u₃ : U) → SameGiven g g′ → Sim (CallReturned x j us vs) (received x us g z₁ t₃) (received j vs g′ y₁ u₃)
       got (gave v _) (gave _ _) z₁ y₁ t₃ u₃ sameGiven = unfold received in meet (callReturned v)
 
-      result-value : (v : ℕ) (ds : List ℕ) (w : U) → SafeValue (λ r. r ≡ v) (evaluate D (L .arrays) (variable 0 k) (set vs k v) ds w)
-      result-value v ds w = unfold evaluate in sound (getD-set-same vs k v 0 (let r = call-room h s in let i = m .size in omega arith))
+      result-value : (v : ℕ) (ds : List ℕ) (w : U) → SafeValue (λ r. r ≡ v) (evaluate D (L .arrays) (variable 0 j) (set vs j v) ds w)
+      result-value v ds w = unfold evaluate in sound (getD-set-same vs j v 0 (let r = room in let i = m .size in omega arith))
 
-      select-result : (p p′ : Outcome) (z₁ : ℕ) (t₁ : T) (y₁ : ℕ) (u₁ : U) → CallReturned x k us vs p p′
-          → Sim (EndAlike L S val rc) (on p z₁ t₁) (after (λ w v us ds. target (one (assign (slot L x) (select 0 (actAt L pc arm rc) (variable 0 k) (variable 0 (slot L x))))) w v us ds) p′ y₁ u₁)
+      select-result : (p p′ : Outcome) (z₁ : ℕ) (t₁ : T) (y₁ : ℕ) (u₁ : U) → CallReturned x j us vs p p′
+          → Sim (EndAlike L S val rc) (on p z₁ t₁) (after (λ w v us ds. target (one (assign (slot L x) (select 0 (actAt L pc arm rc) (variable 0 j) (variable 0 (slot L x))))) w v us ds) p′ y₁ u₁)
       select-result (next _ ds) (next _ _) z₁ t₁ y₁ u₁ (callReturned v) =
-          let m′ = live-free (h .allocation) m k v (h .allocation .free) in
-          sim-assign-right D budget′ (L .arrays) K (on (next (set us x v) ds) z₁ t₁) (slot L x) (select 0 (actAt L pc arm rc) (variable 0 k) (variable 0 (slot L x))) done y₁ u₁ (set vs k v) ds
-          (on-select-value D (L .arrays) L pc arm rc (set vs k v) (live-on (h .allocation) o m′) s ds (variable 0 k) (variable 0 (slot L x)) v u₁ (result-value v ds u₁) (any-value (slot L x) (set vs k v) ds))
+          let m′ = live-free (h .allocation) m j v free in
+          sim-assign-right D budget′ (L .arrays) K (on (next (set us x v) ds) z₁ t₁) (slot L x) (select 0 (actAt L pc arm rc) (variable 0 j) (variable 0 (slot L x))) done y₁ u₁ (set vs j v) ds
+          (on-select-value D (L .arrays) L pc arm rc (set vs j v) (live-on (h .allocation) o m′) s ds (variable 0 j) (variable 0 (slot L x)) v u₁ (result-value v ds u₁) (any-value (slot L x) (set vs j v) ds))
           λ r y₂ u₂ q. rw q (meet (going (live-assign (h .allocation) m′ x v (call-variable (h .rules)))))
 
   pub simulate-call : (f x : ℕ) (es : List Expression) → Simulated (call f x es)
@@ -210,8 +212,9 @@ module _ (L : Layout) {T U : Type 0} (C : Trace T) (D : Trace U) (budget budget�
     where
       go : (s : Bool) → (pc || rc) ≡ s → (g : Bool) → guarded (procedureAt (L .procedures) f) ≡ g
           → Sim (EndAlike L S val rc) (runStatement C budget (L .arrays) J l (call f x es) z t us cs)
-          (target (compiledCall s g (actAt L pc arm rc) k f (slot L x) (operands L es)) y u vs cs)
-      go true s g q = simulate-call-secret f x es l S pc arm rc k h val o s z t y u us vs cs m
+          (target (compiledCall s g (actAt L pc arm rc) (temporaryAt L f) f (slot L x) (operands L es)) y u vs cs)
+      go true s g q =
+          simulate-call-secret f x es l S pc arm rc k h val o s (temporaryAt L f) (temporary-free (h .allocation) f) (call-room h s) z t y u us vs cs m
       go false s true q =
           simulate-call-public f x es l S pc arm rc k h val z t y u us vs cs m (boolean 0 1 ∷ []) (1 ∷ []) (λ w. unfold evaluateAll evaluate in refl)
           λ ws e n w j v. ks .guard f ws 1 q (λ i. absurd (omega arith)) e n w j v cs
@@ -260,10 +263,10 @@ module _ (L : Layout) {T U : Type 0} (C : Trace T) (D : Trace U) (budget budget�
     -- the second arm after the first has run with the source
     after-then : now (k + 1) ≡ 0 → (p q : Outcome) (z : ℕ) (t : T) (y : ℕ) (u : U) → EndAlike L (widened S (k + 2)) now (rcAfterBlockAt L true rc a) p q
         → Sim (EndAlike L S val (rcAfterAt L pc rc (conditional c a b))) (on p z t)
-        (after (λ w v xs ds. target (codes L b true (k + 1) rc (k + 2 + sizeOfBlock L true rc a)) w v xs ds) q y u)
+        (after (λ w v xs ds. target (codes L b true (k + 1) rc (k + 2)) w v xs ds) q y u)
     after-then n (next us ds) (next vs _) z t y u (going m) =
         let s = secret-else h e in
-        sim-more (inactive-block L D budget′ K kq b (widened S (k + 2)) true (k + 1) rc (k + 2 + sizeOfBlock L true rc a) s y u vs ds
+        sim-more (inactive-block L D budget′ K kq b (widened S (k + 2)) true (k + 1) rc (k + 2) s y u vs ds
         (record { size = m .size; off = offArm refl (m .reserved (k + 1) (s .allocation .armed refl) ∙ n); bounded = m .bounded })) λ q x. go q x
       where
         go : (q : Outcome) → Next (Unchanged L (widened S (k + 2)) vs) ds q → EndAlike L S val (rcAfterAt L pc rc (conditional c a b)) (next us ds) q
@@ -271,7 +274,7 @@ module _ (L : Layout) {T U : Type 0} (C : Trace T) (D : Trace U) (budget budget�
     after-then n (back v ds) (back _ _) z t y u quit = meet quit
     after-then n (back v ds) (next vs _) z t y u (deferred r m) =
         let s = secret-else h e in
-        sim-more (inactive-block L D budget′ K kq b (widened S (k + 2)) true (k + 1) rc (k + 2 + sizeOfBlock L true rc a) s y u vs ds
+        sim-more (inactive-block L D budget′ K kq b (widened S (k + 2)) true (k + 1) rc (k + 2) s y u vs ds
         (record { size = m .size; off = offArm refl (m .reserved (k + 1) (s .allocation .armed refl) ∙ n); bounded = m .bounded })) λ q x. go q x
       where
         go : (q : Outcome) → Next (Unchanged L (widened S (k + 2)) vs) ds q → EndAlike L S val (rcAfterAt L pc rc (conditional c a b)) (back v ds) q
@@ -288,21 +291,21 @@ module _ (L : Layout) {T U : Type 0} (C : Trace T) (D : Trace U) (budget budget�
     pub simulate-arms : (v : ℕ) → eqb (now k) 0 ≡ eqb v 0 → eqb (now (k + 1)) 0 ≡ not (eqb v 0) → (z : ℕ) (t : T) (y : ℕ) (u : U) (us vs cs : List ℕ) → Live L (widened S (k + 2)) now us vs
         → Sim (EndAlike L S val (rcAfterAt L pc rc (conditional c a b)))
         (taken (truth v) (λ y w us ds. source a y w us ds) (λ y w us ds. source b y w us ds) z t us cs)
-        (target (followedBy (codes L a true k rc (k + 2)) (codes L b true (k + 1) rc (k + 2 + sizeOfBlock L true rc a))) y u vs cs)
+        (target (followedBy (codes L a true k rc (k + 2)) (codes L b true (k + 1) rc (k + 2))) y u vs cs)
     unfolding taken
     simulate-arms v p q z t y u us vs cs m =
-        rw (truth-zero v, run-followed D budget′ (L .arrays) K (codes L a true k rc (k + 2)) (codes L b true (k + 1) rc (k + 2 + sizeOfBlock L true rc a)) y u vs cs) (go (eqb v 0) p q)
+        rw (truth-zero v, run-followed D budget′ (L .arrays) K (codes L a true k rc (k + 2)) (codes L b true (k + 1) rc (k + 2)) y u vs cs) (go (eqb v 0) p q)
       where
         enter-else : eqb (now (k + 1)) 0 ≡ false → (o : Outcome) (w : ℕ) (x : U) → Next (Unchanged L (widened S (k + 2)) vs) cs o
             → Sim (EndAlike L S val (rcAfterAt L pc rc (conditional c a b))) (source b z t us cs)
-            (after (λ w v xs ds. target (codes L b true (k + 1) rc (k + 2 + sizeOfBlock L true rc a)) w v xs ds) o w x)
+            (after (λ w v xs ds. target (codes L b true (k + 1) rc (k + 2)) w v xs ds) o w x)
         enter-else n (next xs _) w x (onward r) =
-            sim-map after-else (mb (widened S (k + 2)) true (k + 1) rc (k + 2 + sizeOfBlock L true rc a) (secret-else h e) now (λ _. eqb-false (now (k + 1)) 0 n) z t w x us xs cs (live-still (secret-then h e .allocation) m r))
+            sim-map after-else (mb (widened S (k + 2)) true (k + 1) rc (k + 2) (secret-else h e) now (λ _. eqb-false (now (k + 1)) 0 n) z t w x us xs cs (live-still (secret-then h e .allocation) m r))
 
         go : (s : Bool) → eqb (now k) 0 ≡ s → eqb (now (k + 1)) 0 ≡ not s
             → Sim (EndAlike L S val (rcAfterAt L pc rc (conditional c a b)))
             (pick {A = Body T} s (λ y w us ds. source b y w us ds) (λ y w us ds. source a y w us ds) z t us cs)
-            (andGo (target (codes L a true k rc (k + 2)) y u vs cs) (after (λ w v xs ds. target (codes L b true (k + 1) rc (k + 2 + sizeOfBlock L true rc a)) w v xs ds)))
+            (andGo (target (codes L a true k rc (k + 2)) y u vs cs) (after (λ w v xs ds. target (codes L b true (k + 1) rc (k + 2)) w v xs ds)))
         go true p′ q′ =
             sim-first (inactive-block L D budget′ K kq a (widened S (k + 2)) true k rc (k + 2) (secret-then h e) y u vs cs
             (record { size = m .size; off = offArm refl (m .reserved k (secret-then h e .allocation .armed refl) ∙ eqb-true (now k) 0 p′); bounded = m .bounded })) λ o w x r. enter-else q′ o w x r
@@ -332,10 +335,10 @@ module _ (L : Layout) {T U : Type 0} (C : Trace T) (D : Trace U) (budget budget�
   simulate-if-public c a b ma mb e l S pc arm rc k h val o z t y u us vs cs m =
       rw (code-if-public L pc arm rc k c a b e)
       (sim-one D budget′ (L .arrays) K (runStatement C budget (L .arrays) J l (conditional c a b) z t us cs)
-      (conditional (operand L c) (codes L a pc arm rc k) (codes L b pc arm rc (k + sizeOfBlock L pc rc a))) y u vs cs λ w.
+      (conditional (operand L c) (codes L a pc arm rc k) (codes L b pc arm rc k)) y u vs cs λ w.
       rw (
         run-conditional C budget (L .arrays) J l c a b z t us cs,
-        run-conditional D budget′ (L .arrays) K 0 (operand L c) (codes L a pc arm rc k) (codes L b pc arm rc (k + sizeOfBlock L pc rc a)) w u vs cs,
+        run-conditional D budget′ (L .arrays) K 0 (operand L c) (codes L a pc arm rc k) (codes L b pc arm rc k) w u vs cs,
       )
       (sim-within z w (live-value (if-condition (h .rules)) m cs t u) λ v v′ t₁ u₁ q.
       rw q (sim-within z w (both (emitted C 1 l (truth v′) t₁) (emitted D 1 0 (truth v′) u₁)) λ d d′ t₂ u₂ r.
@@ -344,8 +347,8 @@ module _ (L : Layout) {T U : Type 0} (C : Trace T) (D : Trace U) (budget budget�
       go : (s : Bool) (w : ℕ) (t₂ : T) (u₂ : U)
           → Sim (EndAlike L S val (rcAfterAt L pc rc (conditional c a b)))
           (pick {A = Body T} s (λ y w us ds. source b y w us ds) (λ y w us ds. source a y w us ds) z t₂ us cs)
-          (pick {A = Body U} s (λ y w us ds. target (codes L b pc arm rc (k + sizeOfBlock L pc rc a)) y w us ds) (λ y w us ds. target (codes L a pc arm rc k) y w us ds) w u₂ vs cs)
-      go true w t₂ u₂ = sim-map (end-alike-rise (rc-public-else (L .types) (L .arrays) c a b pc rc e)) (mb S pc arm rc (k + sizeOfBlock L pc rc a) (public-else h e) val o z t₂ w u₂ us vs cs m)
+          (pick {A = Body U} s (λ y w us ds. target (codes L b pc arm rc k) y w us ds) (λ y w us ds. target (codes L a pc arm rc k) y w us ds) w u₂ vs cs)
+      go true w t₂ u₂ = sim-map (end-alike-rise (rc-public-else (L .types) (L .arrays) c a b pc rc e)) (mb S pc arm rc k (public-else h e) val o z t₂ w u₂ us vs cs m)
       go false w t₂ u₂ = sim-map (end-alike-rise (rc-public-then (L .types) (L .arrays) c a b pc rc e)) (ma S pc arm rc k (public-then h e) val o z t₂ w u₂ us vs cs m)
 
   pub simulate-if : (c : Expression) (a b : Block) → SimulatedBlock a → SimulatedBlock b → Simulated (conditional c a b)
@@ -412,18 +415,18 @@ module _ (L : Layout) {T U : Type 0} (C : Trace T) (D : Trace U) (budget budget�
   simulate-step l s b ms mb S pc arm rc k h val o z t y u us vs cs m =
       rw (
         run-step C budget (L .arrays) J l s b z t us cs,
-        run-followed D budget′ (L .arrays) K (code L s pc arm rc k) (codes L b pc arm (rcAfterAt L pc rc s) (k + sizeOf L pc rc s)) y u vs cs,
+        run-followed D budget′ (L .arrays) K (code L s pc arm rc k) (codes L b pc arm (rcAfterAt L pc rc s) k) y u vs cs,
       )
       (tick-left budget l z t _ _ λ z₁. sim-go (ms l S pc arm rc k (first-statement h) val o z₁ t y u us vs cs m) λ p q z₂ y₂ t₂ u₂ r. next-statement p q z₂ t₂ y₂ u₂ r)
     where
       next-statement : (p q : Outcome) (z : ℕ) (t : T) (y : ℕ) (u : U) → EndAlike L S val (rcAfterAt L pc rc s) p q
           → Sim (EndAlike L S val (rcAfterBlockAt L pc (rcAfterAt L pc rc s) b))
           (after (λ w v us ds. source b w v us ds) p z t)
-          (after (λ w v us ds. target (codes L b pc arm (rcAfterAt L pc rc s) (k + sizeOf L pc rc s)) w v us ds) q y u)
-      next-statement (next us ds) (next vs _) z t y u (going m) = mb S pc arm (rcAfterAt L pc rc s) (k + sizeOf L pc rc s) (rest-block h) val o z t y u us vs ds m
+          (after (λ w v us ds. target (codes L b pc arm (rcAfterAt L pc rc s) k) w v us ds) q y u)
+      next-statement (next us ds) (next vs _) z t y u (going m) = mb S pc arm (rcAfterAt L pc rc s) k (rest-block h) val o z t y u us vs ds m
       next-statement (back v ds) (back _ _) z t y u quit = meet quit
       next-statement (back v ds) (next vs _) z t y u (deferred r m) =
-          sim-more (inactive-block L D budget′ K kq b S pc arm (rcAfterAt L pc rc s) (k + sizeOf L pc rc s) (rest-block h) y u vs ds
+          sim-more (inactive-block L D budget′ K kq b S pc arm (rcAfterAt L pc rc s) k (rest-block h) y u vs ds
           (record { size = m .size; off = offLive r (m .ended); bounded = m .bounded })) λ q a. go q a
         where
           go : (q : Outcome) → Next (Unchanged L S vs) ds q → EndAlike L S val (rcAfterBlockAt L pc (rcAfterAt L pc rc s) b) (back v ds) q

@@ -1,17 +1,17 @@
 -- The rules of the words around a procedure's own statements. Assumes nothing.
-use Prim.Native.Nat.{ℕ, suc, _+_, _-_, _≤_, _<_}
+use Prim.Native.Nat.{ℕ, suc, _+_, _*_, _-_, _≤_, _<_}
 use mathlib.Core.Bool.{Bool, true, false}
 use mathlib.Core.List.{List, [], _∷_, _++_}
 use mathlib.Core.Path.{_≡_, sym, ap, _∙_}
 use native.Mathlib.Omega.{arith}
 use native.Mathlib.Numerals.{add-one}
-use lib.ListN.{length, getD, take, drop, length-drop}
+use lib.ListN.{length, getD, take, drop, replicate, length-drop}
 use lib.Seq.{drop-cons, take-all}
 use Rattle.definitions.specs.Choice.{pick}
 use Rattle.definitions.specs.Encoding.{wordWith, statementWordWith}
-use Rattle.definitions.specs.Compiling.{secretBoolean}
+use Rattle.definitions.specs.Compiling.{secretOf, secretBoolean, pairTypes}
 use Rattle.writer.specs.Writing.{Output, write, writes}
-use Rattle.writer.specs.Laws.{writes-nil, writes-on, writes-one, run-run}
+use Rattle.writer.specs.Laws.{writes-nil, writes-on, writes-one, writes-app, run-run}
 
 module _ (words : List ℕ) (to j p : ℕ) (out : List ℕ) (X : Output) (u : writes p out (take (to - j) (drop j words)) ≡ X) where
   pub copy-done : to ≤ j → _≡_ {A = Output} (p, out) X
@@ -29,7 +29,29 @@ module _ (words : List ℕ) (to j p : ℕ) (out : List ℕ) (X : Output) (u : wr
       ∙ sym (writes-on p out (getD words j 0) (take (to - (j + 1)) (drop (suc j) words)))
       ∙ sym (ap (λ k. writes p out (take k (drop j words))) z ∙ ap (λ l. writes p out (take (suc (to - (j + 1))) l)) d) ∙ u
 
+pub pairs-begin : (levels p : ℕ) (out : List ℕ) → writes p out (pairTypes (levels - 0)) ≡ writes p out (pairTypes levels)
+pairs-begin levels p out = let z : levels - 0 ≡ levels = omega arith in ap (λ k. writes p out (pairTypes k)) z
+
+-- the pairs that are left
+module _ (levels j p : ℕ) (out : List ℕ) (X : Output) (u : writes p out (pairTypes (levels - j)) ≡ X) where
+  pub pairs-done : levels ≤ j → _≡_ {A = Output} (p, out) X
+  pairs-done h =
+      let z : levels - j ≡ 0 = omega arith in
+      sym (ap (λ k. writes p out (pairTypes k)) z ∙ writes-nil p out) ∙ u
+
+  pub pairs-more : (q : ℕ) (t : List ℕ) → j < levels → _≡_ {A = Output} (q, t) (writes p out (secretBoolean ∷ (secretBoolean ∷ [])))
+      → writes q t (pairTypes (levels - (j + 1))) ≡ X
+  pairs-more q t h e =
+      let z : 2 * (levels - j) ≡ suc (suc (2 * (levels - (j + 1)))) = omega arith in
+      ap (λ (y : Output). writes (y .0) (y .1) (pairTypes (levels - (j + 1)))) e
+      ∙ sym (writes-app (secretBoolean ∷ (secretBoolean ∷ [])) (pairTypes (levels - (j + 1))) p out)
+      ∙ sym (ap (λ k. writes p out (replicate k secretBoolean)) z) ∙ u
+
 module _ (o : ℕ) (out : List ℕ) (b : Bool) where
+  pub temporary-on : (sort w r : ℕ) (t : List ℕ) → b ≡ true → w ≡ secretOf sort → _≡_ {A = Output} (r, t) (write o out w)
+      → _≡_ {A = Output} (r, t) (writes o out (pick b (secretOf sort ∷ []) []))
+  temporary-on sort w r t h hw e = rw h (e ∙ ap (λ (z : ℕ). write o out z) hw ∙ sym (writes-one o out (secretOf sort)))
+
   pub chosen-word : (w r : ℕ) (t : List ℕ) → b ≡ true → _≡_ {A = Output} (r, t) (write o out w) → _≡_ {A = Output} (r, t) (writes o out (pick b (w ∷ []) []))
   chosen-word w r t h e = rw h (e ∙ sym (writes-one o out w))
 

@@ -1,6 +1,4 @@
 // A compiled procedure: its word, its types, its body.
-use contexts::Context;
-use contexts::rc_block;
 use emission::Cursor;
 use emission::emit_block;
 use image_words::kinds;
@@ -12,11 +10,14 @@ use image_words::made::SECRET_BOOLEAN;
 use image_words::made::TRUE_WORD;
 use image_words::made::block_with;
 use image_words::made::procedure_with;
+use image_words::made::secret_of;
 use image_words::made::statement_with;
 use image_words::made::word_with;
 use image_words::ops;
-use locals::Typed;
-use locals::type_block;
+use locals::Found;
+use locals::find_block;
+use operators::BOOLEAN;
+use operators::WORD;
 use tables::SIZE;
 use tables::signatures::is_guarded;
 use tables::signatures::result_type;
@@ -25,18 +26,18 @@ use writer::put;
 use writer::put_two;
 ghost use mathlib.Core.Path.{_≡_};
 ghost use mathlib.Core.List.{[], _∷_, _++_};
-ghost use Prim.Native.Nat.{_+_, _-_, _≤_};
+ghost use Prim.Native.Nat.{_+_, _-_, _≤_, _<_};
 ghost use lib.ListN.{length, take, drop};
 ghost use Rattle.definitions.specs.Choice.{pick};
-ghost use Rattle.definitions.specs.Encoding.{wordWith, statementWordWith, statementsWords, blockWords};
-ghost use Rattle.definitions.specs.Compiling.{secretBoolean};
+ghost use Rattle.definitions.specs.Encoding.{wordWith, statementWordWith, statementsWords, blockWords, procedureWords};
+ghost use Rattle.definitions.specs.Compiling.{secretBoolean, secretOf, pairTypes};
 ghost use Rattle.laws.specs.ImageIn.{imageIn};
 ghost use Rattle.tables.specs.Looking.{Listed, procedureIn};
 ghost use Rattle.writer.specs.Writing.{writes};
-ghost use Rattle.procedures.specs.Procedures.{Described, typesFor, bodyFor, part, procedureOn};
+ghost use Rattle.procedures.specs.Procedures.{Described, numbersOf, headFor, typesOf, bodyFor, procedureFor, part};
 
 // What is known of a source procedure: its number, whether it is guarded, the number of its parameters, its result's type word, the place
-// of its body, and whether any return is deferred.
+// of its body; and of the body whether any return is deferred, the nesting levels of its secret ifs, and which temporaries it needs.
 struct Source {
     me: u32,
     guarded: bool,
@@ -44,19 +45,26 @@ struct Source {
     result: u32,
     body: usize,
     defers: bool,
+    levels: u32,
+    words: bool,
+    booleans: bool,
 }
 
-// The place after what was written, the number of statements of the body, the number of variables.
+// The variables of the compiled procedure: the first of the source's that moves, RV, T of the outermost level, the temporaries, and how
+// many variables there are.
+struct Numbers {
+    first: u32,
+    rv: u32,
+    pair: u32,
+    word: u32,
+    boolean: u32,
+    count: u32,
+}
+
+// The place after what was written, and the number of statements of the body.
 struct Part {
     o: usize,
     n: u32,
-    k: u32,
-}
-
-// The place after a procedure, and the number of its locals.
-pub struct Emitted {
-    pub o: usize,
-    pub locals: u32,
 }
 
 // The procedure numbered `me`, with the type words of its variables.
@@ -66,11 +74,15 @@ fn describe(image: &[u32], table: &[u32; SIZE], types: &[u32], me: u32) -> Sourc
 {
     let guarded = is_guarded(image, table, me);
     let body = tables::body(table, me);
-    let first = Context {
-        pc: guarded,
+    let scope = locals::Scope { me, pc: guarded };
+    let before = Found {
+        at: body,
         rc: false,
+        levels: 0,
+        words: false,
+        booleans: false,
     };
-    let d = rc_block(image, table, types, me, first, body, largest_level(0));
+    let d = find_block(image, table, types, scope, before, largest_level(0));
     Source {
         me,
         guarded,
@@ -78,6 +90,58 @@ fn describe(image: &[u32], table: &[u32; SIZE], types: &[u32], me: u32) -> Sourc
         result: result_type(image, table, me),
         body,
         defers: d.rc,
+        levels: d.levels,
+        words: d.words,
+        booleans: d.booleans,
+    }
+}
+
+// 1 where something is there, else 0.
+fn one_if(there: bool) -> u32
+    ensures { λ r. ⌜ (r ≡ pick there 1 0) × (r ≤ 1) ⌝ }
+{
+    if there {
+        return 1;
+    }
+    0
+}
+
+// The number of variables that deferred returns take.
+fn deferred_of(defers: bool) -> u32
+    ensures { λ r. ⌜ (r ≡ pick defers 2 0) × (r ≤ 2) ⌝ }
+{
+    if defers {
+        return 2;
+    }
+    0
+}
+
+// The first variable that moves: a guarded procedure's first local; none of an open one.
+fn first_moved(guarded: bool, n: u32, size: u32) -> u32
+    ensures { λ r. ⌜ r ≡ pick guarded n size ⌝ }
+{
+    if guarded {
+        return n;
+    }
+    size
+}
+
+// The variables of the compiled procedure, where the source has so many.
+fn number(source: Source, size: u32) -> Numbers
+    requires { ⌜ (size ≤ 255) × (source .levels ≤ 100) ⌝ }
+    ensures { λ r. ⌜ (r ≡ numbersOf source size) × (r .count ≤ 1000) ⌝ }
+{
+    let rv = size + one_if(source.guarded);
+    let pair = rv + deferred_of(source.defers);
+    let word = pair + 2 * source.levels;
+    let boolean = word + one_if(source.words);
+    Numbers {
+        first: first_moved(source.guarded, source.parameters, size),
+        rv,
+        pair,
+        word,
+        boolean,
+        count: boolean + one_if(source.booleans),
     }
 }
 
@@ -126,31 +190,40 @@ fn emit_return_types(out: &mut [u32], o: usize, defers: bool, result: u32) -> us
     o
 }
 
+// The types of the pairs, T and E of each level.
+fn emit_pair_types(out: &mut [u32], o: usize, levels: u32) -> usize
+    ensures { λ r. ⌜ (r, now (out .exit)) ≡ writes o (now (out .entry)) (pairTypes levels) ⌝ }
+{
+    let mut j = 0;
+    let mut p = o;
+    while j < levels {
+        p = put_two(out, p, SECRET_BOOLEAN, SECRET_BOOLEAN);
+        j += 1;
+    }
+    p
+}
+
+// The type of the temporary for results of a sort, if it is needed.
+fn emit_temporary_type(out: &mut [u32], o: usize, sort: u32, needed: bool) -> usize
+    requires { ⌜ sort < 2 ⌝ }
+    ensures { λ r. ⌜ (r, now (out .exit)) ≡ writes o (now (out .entry)) (pick needed (secretOf sort ∷ []) []) ⌝ }
+{
+    if needed {
+        return put(out, o, secret_of(sort));
+    }
+    o
+}
+
 // The types of all variables.
-fn emit_types(
-    image: &[u32],
-    table: &[u32; SIZE],
-    types: &[u32],
-    out: &mut [u32],
-    source: Source,
-    o: usize,
-) -> usize
-    requires { ⌜ Described (now image) (now table) (now types) source ⌝ }
-    ensures { λ r. ⌜ (r, now (out .exit)) ≡ writes o (now (out .entry)) (typesFor (now (image .entry)) (source .me)) ⌝ }
+fn emit_types(types: &[u32], out: &mut [u32], source: Source, o: usize) -> usize
+    requires { ⌜ source .parameters ≤ length (now types) ⌝ }
+    ensures { λ r. ⌜ (r, now (out .exit)) ≡ writes o (now (out .entry)) (typesOf source (now (types .entry))) ⌝ }
 {
     let a = emit_kept_types(types, out, o, wide(source.parameters), source.guarded);
     let b = emit_return_types(out, a, source.defers, source.result);
-    let scope = locals::Scope {
-        me: source.me,
-        pc: source.guarded,
-    };
-    let first = Typed {
-        at: source.body,
-        o: b,
-        rc: false,
-    };
-    let v = type_block(image, table, types, out, scope, first, largest_level(0));
-    v.o
+    let c = emit_pair_types(out, b, source.levels);
+    let d = emit_temporary_type(out, c, WORD, source.words);
+    emit_temporary_type(out, d, BOOLEAN, source.booleans)
 }
 
 // LIVE := true where a return is deferred; LIVE follows RV.
@@ -175,46 +248,6 @@ fn emit_last(out: &mut [u32], o: usize, rv: u32, defers: bool) -> usize
     o
 }
 
-// The number of guards: 1 for a guarded procedure.
-fn guards_of(guarded: bool) -> u32
-    ensures { λ r. ⌜ (r ≡ pick guarded 1 0) × (r ≤ 1) ⌝ }
-{
-    if guarded {
-        return 1;
-    }
-    0
-}
-
-// The number of variables that deferred returns take.
-fn deferred_of(defers: bool) -> u32
-    ensures { λ r. ⌜ (r ≡ pick defers 2 0) × (r ≤ 2) ⌝ }
-{
-    if defers {
-        return 2;
-    }
-    0
-}
-
-// The number of statements before the source's own, and of those after them.
-fn opening_of(defers: bool) -> u32
-    ensures { λ r. ⌜ (r ≡ pick defers 1 0) × (r ≤ 1) ⌝ }
-{
-    if defers {
-        return 1;
-    }
-    0
-}
-
-// The first variable that moves: a guarded procedure's first local; none of an open one.
-fn first_moved(guarded: bool, n: u32, size: u32) -> u32
-    ensures { λ r. ⌜ r ≡ pick guarded n size ⌝ }
-{
-    if guarded {
-        return n;
-    }
-    size
-}
-
 // The statements of the body: LIVE := true, the source's own, return RV.
 fn emit_inner(
     image: &[u32],
@@ -226,32 +259,32 @@ fn emit_inner(
 ) -> Part
     requires { ⌜ Described (now image) (now table) (now types) source ⌝ }
     ensures { λ r. ⌜ ((r, now (out .exit)) ≡ part (now (image .entry)) (source .me) (writes o (now (out .entry)) (statementsWords (bodyFor (now (image .entry)) (source .me)))))
-        × (r .n ≤ 10000) × (r .k ≤ 10000) ⌝ }
+        × (r .n ≤ 10000) ⌝ }
 {
-    let size = narrow(types.len());
-    let rv = size + guards_of(source.guarded);
-    let s = opening_of(source.defers);
-    let q = emit_live(out, o, rv, source.defers);
+    let numbers = number(source, narrow(types.len()));
+    let opening = one_if(source.defers); // a statement before the source's own, and one after them
+    let q = emit_live(out, o, numbers.rv, source.defers);
     let scope = emission::Scope {
         me: source.me,
         pc: source.guarded,
         arm: source.parameters,
-        first: first_moved(source.guarded, source.parameters, size),
-        rv,
+        first: numbers.first,
+        rv: numbers.rv,
+        pair: numbers.pair,
+        word: numbers.word,
+        boolean: numbers.boolean,
     };
     let first = Cursor {
         at: source.body,
         o: q,
-        n: s,
-        k: rv + deferred_of(source.defers),
+        n: opening,
         rc: false,
     };
     let c = emit_block(image, table, types, out, scope, first, largest_level(0));
-    let r = emit_last(out, c.o, rv, source.defers);
+    let r = emit_last(out, c.o, numbers.rv, source.defers);
     Part {
         o: r,
-        n: c.n + s,
-        k: c.k,
+        n: c.n + opening,
     }
 }
 
@@ -263,36 +296,27 @@ fn emit_body(
     out: &mut [u32],
     source: Source,
     o: usize,
-) -> Part
+) -> usize
     requires { ⌜ Described (now image) (now table) (now types) source ⌝ }
-    ensures { λ r. ⌜ ((r, now (out .exit)) ≡ part (now (image .entry)) (source .me) (writes o (now (out .entry)) (blockWords (bodyFor (now (image .entry)) (source .me)))))
-        × (r .k ≤ 10000) ⌝ }
+    ensures { λ r. ⌜ (r, now (out .exit)) ≡ writes o (now (out .entry)) (blockWords (bodyFor (now (image .entry)) (source .me))) ⌝ }
 {
     let p = put(out, o, 0);
     let c = emit_inner(image, table, types, out, source, p);
     patch(out, o, block_with(c.n));
-    c
+    c.o
 }
 
-// The types and the body.
-fn emit_parts(
-    image: &[u32],
-    table: &[u32; SIZE],
-    types: &[u32],
-    out: &mut [u32],
-    source: Source,
-    o: usize,
-) -> Part
-    requires { ⌜ Described (now image) (now table) (now types) source ⌝ }
-    ensures { λ r. ⌜ ((r, now (out .exit)) ≡ part (now (image .entry)) (source .me)
-        (writes o (now (out .entry)) (typesFor (now (image .entry)) (source .me) ++ blockWords (bodyFor (now (image .entry)) (source .me)))))
-        × (r .k ≤ 10000) ⌝ }
+// The word of the procedure.
+fn head_of(types: &[u32], source: Source) -> u32
+    requires { ⌜ (length (now types) ≤ 255) × (source .parameters ≤ length (now types)) × (source .parameters ≤ 8) × (source .levels ≤ 100) ⌝ }
+    ensures { λ r. ⌜ r ≡ headFor source (length (now (types .entry))) ⌝ }
 {
-    let t = emit_types(image, table, types, out, source, o);
-    emit_body(image, table, types, out, source, t)
+    let numbers = number(source, narrow(types.len()));
+    let parameters = source.parameters + one_if(source.guarded);
+    procedure_with(parameters, numbers.count - parameters)
 }
 
-// The procedure numbered `me`, with the type words of its variables; its word holds the number of its locals and is written last.
+// The procedure numbered `me`, with the type words of its variables.
 pub fn emit_procedure(
     image: &[u32],
     table: &[u32; SIZE],
@@ -300,15 +324,12 @@ pub fn emit_procedure(
     out: &mut [u32],
     me: u32,
     o: usize,
-) -> Emitted
+) -> usize
     requires { ⌜ Listed (now image) (now table) me × (imageIn (now image) .form ≡ 0) × (now types ≡ procedureIn (now image) me .types) ⌝ }
-    ensures { λ r. ⌜ (r, now (out .exit)) ≡ procedureOn (now (image .entry)) me o (now (out .entry)) ⌝ }
+    ensures { λ r. ⌜ (r, now (out .exit)) ≡ writes o (now (out .entry)) (procedureWords (procedureFor (now (image .entry)) me)) ⌝ }
 {
     let source = describe(image, table, types, me);
-    let h = put_two(out, o, 0, source.result);
-    let b = emit_parts(image, table, types, out, source, h);
-    let parameters = source.parameters + guards_of(source.guarded);
-    let locals = b.k - parameters;
-    patch(out, o, procedure_with(parameters, locals));
-    Emitted { o: b.o, locals }
+    let h = put_two(out, o, head_of(types, source), source.result);
+    let t = emit_types(types, out, source, h);
+    emit_body(image, table, types, out, source, t)
 }

@@ -38,6 +38,7 @@ use Rattle.statements.specs.Limits.{FitsImage}
 use Rattle.statements.specs.FormerLimits.{readImageBy, formerReadImage, From, Kept, WithinLimits, SameAnswers}
 use Rattle.statements.specs.FormerAnswers.{AnswersAs}
 use Rattle.statements.specs.FormerIndices.{formerBoundedIndex, todaysRule, admittedBy, formerlyAdmitted, upperBounds, Sum, NamesSum}
+use Rattle.statements.specs.FormerNumbering.{formerCompileBytes}
 use Rattle.statements.specs.FormerTraces.{callBytesBy, formerCallBytes, noShift, OnlyEntriesAdded}
 use Rattle.laws.specs.FormerLevels.{by-image, limits-keep-answers, one-level-more, same-answers}
 use Rattle.laws.specs.Previews.{preview-is-call-on-a-copy, preview-turn}
@@ -46,6 +47,7 @@ use Rattle.results.specs.WithinLimits.{within-limits}
 use Rattle.results.specs.IndicesAdded.{variable-and-constant, constant-and-variable, bounded-before-bounded-now, only-sums-added}
 use Rattle.results.specs.IndicesAdded.{by-rule, refused-as-before}
 use Rattle.results.specs.IndicesAdded
+use Rattle.results.specs.StillCompiles.{still-compiles, refused-before, locals-always-fit, fifteen-by-length}
 use Rattle.results.specs.CountsAdded.{count-recorded, count-stopped, by-operators, only-entries-added, no-shift-same}
 use Rattle.results.specs.Accepted.{accepted-exactly, refused-exactly, reading-number, sort-number, label-number}
 use Rattle.results.specs.Exactly.{loaded-or-not, ready-or-not, cell-or-not, called-or-not, load-refused-exactly, load-is-done}
@@ -277,7 +279,7 @@ pub record Wish1 : Type 0 where
   -- and every image within the new limits is one of these.
   pub within-limits : (image : List ℕ) (tree : Image) → WithinLimits (wholeWords image) (wordsOf image) tree
       → SameAnswers (wholeWords image) (wordsOf image)
-  -- A compiled tree is never too deep: with few enough locals it keeps every limit of form 1, so 15 comes from locals or length alone.
+  -- A compiled tree is never too deep: with few enough locals it keeps every limit of form 1, so 15 never comes from the level.
   pub never-too-deep : (image : List ℕ) (tree : Image) → AdmissibleBytes image tree → tree .form ≡ 0
       → fitLocals (compiledImage tree .procedures) ≡ true → FitsImage (compiledImage tree)
 
@@ -407,6 +409,36 @@ wish-7 =
       preview-is-call-on-a-copy = λ image cells b f arguments budget trace. preview-is-call-on-a-copy image cells f arguments budget trace b;
       preview-turn = preview-turn;
       trace-enough = trace-enough;
+    }
+
+-- ======== Document 02, wish 8
+-- "After RV and LIVE there shall be one T and E pair for each nesting level of secret ifs, outermost first, then one word temporary and one boolean
+-- temporary, each only if needed. The example keeps its words. Output is compared with this numbering from now on, and an image that compiled before
+-- still compiles and ends the same way." The numbering is that of definitions/specs/Compiling.antt; that the example keeps its words is computed
+-- (cases/specs/Numbering.antt, `example-keeps-its-words`); that what is compiled ends as its source does is property 2, which is as it was.
+
+pub record Wish8 : Type 0 where
+  -- Where the former compiler wrote, today's writes into the same slice, no more words than that, and every call on these ends as that on the source;
+  pub still-compiles : (image out : List ℕ) (n : ℕ) → formerCompileBytes image out .0 ≡ Written n
+      → (m : ℕ) × (compileBytes image out .0 ≡ Written m) × (m ≤ n)
+      × ((tree : Image) → AdmissibleBytes image tree → SameMeaning image tree (wrote image out m))
+  -- and what is refused today was refused then, with the same number at the same place, or with 15.
+  pub refused-before : (image out : List ℕ) (k p : ℕ) → compileBytes image out .0 ≡ CompileRefused k p
+      → (formerCompileBytes image out .0 ≡ CompileRefused k p) ⊎ (formerCompileBytes image out .0 ≡ CompileRefused 15 0)
+  -- "Long routines hit 15 because each secret if takes two locals": the locals of every compiled image are within form 1's limit, so that 15 falls
+  -- exactly where there are too many words.
+  pub locals-always-fit : (image : List ℕ) (tree : Image) → AdmissibleBytes image tree → tree .form ≡ 0
+      → fitLocals (compiledImage tree .procedures) ≡ true
+  pub fifteen-by-length : (image out : List ℕ) (tree : Image) → AdmissibleBytes image tree → tree .form ≡ 0
+      → Iff (compileBytes image out .0 ≡ CompileRefused 15 0) (16384 < length (imageWords (compiledImage tree)))
+
+pub wish-8 : Wish8
+wish-8 =
+    record {
+      still-compiles = λ image out n h. let (m, e, l) = still-compiles image out n h in (m, e, l, same-meaning image out m e);
+      refused-before = refused-before;
+      locals-always-fit = locals-always-fit;
+      fifteen-by-length = λ image out tree a s. fifteen-by-length image tree a s out;
     }
 
 -- ======== The C functions

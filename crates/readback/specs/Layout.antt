@@ -1,25 +1,26 @@
--- The variables of a compiled procedure: those of its source, the guard, RV and LIVE, the temporaries. Assumes nothing.
-use Prim.Native.Nat.{ℕ, zero, suc, _+_, _-_, _≤_, _<_}
-use mathlib.Core.Bool.{Bool, true, false, _||_}
-use mathlib.Core.List.{List, [], _∷_, _++_, append-assoc}
+-- The variables of a compiled procedure: those of its source, the guard, RV and LIVE, the pairs, the temporaries. Assumes nothing.
+use Prim.Native.Nat.{ℕ, zero, suc, _+_, _*_, _-_, _≤_, _<_}
+use mathlib.Core.Bool.{Bool, true, false}
+use mathlib.Core.List.{List, [], _∷_, _++_}
 use mathlib.Core.Path.{_≡_, refl, ap, sym, _∙_}
 use native.Mathlib.Omega.{arith}
 use native.Mathlib.Nat.{add-zero}
 use lib.Dec.{ltb}
-use lib.ListN.{length, getD, take, drop, length-append, take-append-drop, length-drop, List·getD-append}
+use lib.ListN.{length, getD, take, drop, replicate, length-append, length-replicate, getD-replicate, take-append-drop, length-drop}
+use lib.ListN.{List·getD-append}
 use lib.Seq.{length-take-le, getD-take, getD-drop, getD-append-add, getD-at}
 use borrow.Author.Tests.{lt-ltb, le-ltb, ltb-true, ltb-false}
 use Rattle.definitions.specs.Choice.{pick}
-use Rattle.definitions.specs.Image.{typeSecret, typeSort, typeWord, Procedure, guarded, procedureAt, Statement, assign}
-use Rattle.definitions.specs.Image.{store, conditional, loop, return, call, Block, done, sequence}
+use Rattle.definitions.specs.Operators.{wordSort, booleanSort}
+use Rattle.definitions.specs.Image.{typeSecret, typeWord, Procedure, guarded, procedureAt}
 use Rattle.definitions.specs.Sorts.{sortOf}
-use Rattle.definitions.specs.Labels.{secretIn, rcAfter, rcAfterBlock}
-use Rattle.definitions.specs.Compiling.{secretBoolean, secretOf, renamed, callTemporary, ifTemporaries, temporaries}
-use Rattle.definitions.specs.Compiling.{blockTemporaries, defers, guards, returnVariable, firstMoved, compiledTypes}
-use Rattle.definitions.specs.Compiling.{compiledProcedure, compiledProcedures}
-use Rattle.laws.specs.Spelled.{On, on-whole}
+use Rattle.definitions.specs.Compiling.{secretBoolean, secretOf, renamed, defers, guards, returnVariable, firstPair, levels}
+use Rattle.definitions.specs.Compiling.{pairTypes, needed, temporaryTypes, temporaryFrom, firstMoved, compiledTypes}
+use Rattle.definitions.specs.Compiling.{temporaryOf, compiledProcedure, compiledProcedures}
+use Rattle.laws.specs.Spelled.{On, on-first, on-split, on-end, on-whole, words-on}
+use Rattle.laws.specs.CompiledLocals.{types-words}
 use Rattle.statements.specs.Limits.{AllTypes, no-types, more-types}
-use Rattle.readback.specs.Renaming.{Fresh, renamed-le}
+use Rattle.readback.specs.Renaming.{Fresh, Added, renamed-le}
 use Rattle.readback.specs.Setting.{Callee}
 
 -- the source's variables, with the guard behind the parameters
@@ -53,15 +54,40 @@ front-old true n types x h l = go (ltb x n) refl
 front-guard : (n : ℕ) (types : List ℕ) → n ≤ length types → getD (front true n types) n 0 ≡ secretBoolean
 front-guard n types h = getD-at (take n types) secretBoolean (drop n types) 0 n (length-take-le n types h)
 
+-- words and then words, and where they meet
+parted :
+    {words : List ℕ} {at next : ℕ} (xs ys : List ℕ) → On words at (xs ++ ys) next
+    → On words at xs (at + length xs) × On words (at + length xs) ys next
+parted xs ys on = let (m, a, b) = on-split xs ys on in rw (on-end a) (a, b)
+
+-- the temporary for results of a sort, where it is needed
+for-sort :
+    (needs : ℕ → Bool) {words : List ℕ} {at next : ℕ} → On words at (temporaryTypes (needs wordSort) (needs booleanSort)) next
+    → (sort : ℕ) → sort < 2 → needs sort ≡ true → (at ≤ temporaryFrom at (needs wordSort) sort) × (temporaryFrom at (needs wordSort) sort < length words)
+    × (getD words (temporaryFrom at (needs wordSort) sort) 0 ≡ secretOf sort)
+for-sort needs on zero h e = let (l, q, more) = on-first (rw e at on) in (omega arith, l, q)
+for-sort needs {words} {at} {next} on (suc zero) h e = go (needs wordSort) (rw e at on)
+  where
+    go :
+        (word : Bool) → On words at (temporaryTypes word true) next
+        → (at ≤ at + pick word 1 0) × (at + pick word 1 0 < length words) × (getD words (at + pick word 1 0) 0 ≡ secretOf booleanSort)
+    go true on = let (l, q, more) = on-first on in let (l′, q′, none) = on-first more in (omega arith, l′, q′)
+    go false on = let (l, q, none) = on-first on in rw (add-zero at) (omega arith, l, q)
+for-sort needs on (suc (suc sort)) h e = absurd (omega arith)
+
 module _ (ps : List Procedure) (arrays : List ℕ) (p : Procedure) (named : p .parameters ≤ length (p .types)) where
+  -- the type words of the temporaries, with those of the pairs before them, and with those of RV and LIVE before these
+  abbrev temporaries : List ℕ
+  temporaries = temporaryTypes (needed ps arrays p wordSort) (needed ps arrays p booleanSort)
+
+  abbrev last : List ℕ
+  last = pairTypes (levels arrays p) ++ temporaries
+
   abbrev extra : List ℕ
-  extra = pick (defers arrays p) (p .result ∷ secretBoolean ∷ []) [] ++ blockTemporaries ps arrays (p .types) (guarded p) false (p .body)
+  extra = pick (defers arrays p) (p .result ∷ secretBoolean ∷ []) [] ++ last
 
   split : compiledTypes ps arrays p ≡ front (guarded p) (p .parameters) (p .types) ++ extra
-  unfolding compiledTypes
-  split =
-      ap (λ (ws : List ℕ). take (p .parameters) (p .types) ++ ws) (sym (append-assoc (pick (guarded p) (secretBoolean ∷ []) []) (drop (p .parameters) (p .types)) extra))
-      ∙ sym (append-assoc (take (p .parameters) (p .types)) (pick (guarded p) (secretBoolean ∷ []) [] ++ drop (p .parameters) (p .types)) extra)
+  split = sym (types-words ps arrays p)
 
   long : length (front (guarded p) (p .parameters) (p .types)) ≡ returnVariable p
   long = front-length (guarded p) (p .parameters) (p .types) named
@@ -105,9 +131,51 @@ module _ (ps : List Procedure) (arrays : List ℕ) (p : Procedure) (named : p .p
       let r : returnVariable p ≡ length (p .types) + 1 = rw e in
       front-part (p .parameters) (omega arith) ∙ ap (λ (g : Bool). getD (front g (p .parameters) (p .types)) (p .parameters) 0) e ∙ front-guard (p .parameters) (p .types) named
 
-  -- RV, LIVE and the temporaries
-  pub extra-stands : On (compiledTypes ps arrays p) (returnVariable p) extra (length (compiledTypes ps arrays p))
+  -- a variable that the compiler adds, with its type word
+  abbrev Slot : ℕ → ℕ → Type 0
+  Slot y t = Added (firstMoved p) (length (p .types)) (compiledTypes ps arrays p) y t
+
+  beyond : (y : ℕ) → returnVariable p ≤ y → Fresh (firstMoved p) (length (p .types)) y
+  beyond y h x g e = let b = compiled-below x g in absurd (omega arith)
+
+  extra-stands : On (compiledTypes ps arrays p) (returnVariable p) extra (length (compiledTypes ps arrays p))
   extra-stands = rw (sym long) (on-whole (compiledTypes ps arrays p) (front (guarded p) (p .parameters) (p .types)) extra split)
+
+  last-stands : On (compiledTypes ps arrays p) (firstPair arrays p) last (length (compiledTypes ps arrays p))
+  last-stands = go (defers arrays p) extra-stands
+    where
+      go :
+          (d : Bool)
+          → On (compiledTypes ps arrays p) (returnVariable p) (pick d (p .result ∷ secretBoolean ∷ []) [] ++ last) (length (compiledTypes ps arrays p))
+          → On (compiledTypes ps arrays p) (returnVariable p + pick d 2 0) last (length (compiledTypes ps arrays p))
+      go true on = parted (p .result ∷ secretBoolean ∷ []) last on .1
+      go false on = parted [] last on .1
+
+  -- RV and LIVE
+  pub deferred-added : defers arrays p ≡ true → Slot (returnVariable p) (p .result) × Slot (returnVariable p + 1) secretBoolean
+  deferred-added e =
+      let (h, q, on) = on-first (rw e at extra-stands) in
+      let (h′, q′, on′) = on-first on in
+      ((h, beyond (returnVariable p) (omega arith), q), (h′, beyond (returnVariable p + 1) (omega arith), q′))
+
+  -- T and E of each level
+  pub pairs-added : (y : ℕ) → firstPair arrays p ≤ y → y < firstPair arrays p + 2 * levels arrays p → Slot y secretBoolean
+  pairs-added y h g =
+      let n = 2 * levels arrays p in
+      let i = y - firstPair arrays p in
+      let (on, rest) = parted (pairTypes (levels arrays p)) temporaries last-stands in
+      let size = length-replicate n secretBoolean in
+      let end = on-end rest in
+      let place : firstPair arrays p + i ≡ y = omega arith in
+      let low : i < n = omega arith in
+      (omega arith, beyond y (omega arith), rw place at (sym (words-on size on .word i low) ∙ getD-replicate n i secretBoolean 0 low))
+
+  -- the temporaries
+  pub temporary-added : (sort : ℕ) → sort < 2 → needed ps arrays p sort ≡ true → Slot (temporaryOf ps arrays p sort) (secretOf sort)
+  temporary-added sort h e =
+      let on = rw (length-replicate (2 * levels arrays p) secretBoolean) at (parted (pairTypes (levels arrays p)) temporaries last-stands .1) in
+      let (k, l, q) = for-sort (needed ps arrays p) on sort h e in
+      (l, beyond (temporaryOf ps arrays p sort) (omega arith), q)
 
   -- what a call of the procedure has to know of it
   pub compiled-callee : Callee p (compiledProcedure ps arrays p)
@@ -166,54 +234,24 @@ all-drop zero h = h
 all-drop (suc n) no-types = no-types
 all-drop (suc n) (more-types h hs) = all-drop n hs
 
-secret-type : (r : ℕ) → typeWord (secretOf (typeSort r)) ≡ true
+all-alike : (n w : ℕ) → typeWord w ≡ true → AllTypes (replicate n w)
+all-alike zero w h = no-types
+all-alike (suc n) w h = more-types h (all-alike n w h)
+
+boolean-type : typeWord secretBoolean ≡ true
 unfolding typeWord
-secret-type r = go (typeSort r) (omega arith)
-  where
-    go : (s : ℕ) → s < 2 → typeWord (secretOf s) ≡ true
-    go zero h = refl
-    go (suc zero) h = refl
-    go (suc (suc s)) h = absurd (omega arith)
-
-all-call : (b : Bool) (ps : List Procedure) (f : ℕ) → AllTypes (callTemporary b ps f)
-all-call true ps f = more-types (secret-type (procedureAt ps f .result)) no-types
-all-call false ps f = no-types
-
-all-if : (b : Bool) → AllTypes (ifTemporaries b)
-unfolding typeWord
-all-if true = more-types refl (more-types refl no-types)
-all-if false = no-types
-
-mutual
-  unfolding temporaries blockTemporaries
-
-  all-temporaries : (s : Statement) (ps : List Procedure) (arrays types : List ℕ) (pc rc : Bool) → AllTypes (temporaries ps arrays types pc rc s)
-  all-temporaries (assign x e) ps arrays types pc rc = no-types
-  all-temporaries (store a i e) ps arrays types pc rc = no-types
-  all-temporaries (conditional c a b) ps arrays types pc rc =
-      all-append (all-if (secretIn types arrays c)) (all-append (all-block-temporaries a ps arrays types (pc || secretIn types arrays c) rc)
-      (all-block-temporaries b ps arrays types (pc || secretIn types arrays c) rc))
-  all-temporaries (loop x f t b) ps arrays types pc rc = all-block-temporaries b ps arrays types pc (rcAfterBlock types arrays pc rc b)
-  all-temporaries (return e) ps arrays types pc rc = no-types
-  all-temporaries (call f x es) ps arrays types pc rc = all-call (pc || rc) ps f
-
-  all-block-temporaries : (b : Block) (ps : List Procedure) (arrays types : List ℕ) (pc rc : Bool) → AllTypes (blockTemporaries ps arrays types pc rc b)
-  all-block-temporaries done ps arrays types pc rc = no-types
-  all-block-temporaries (sequence l s b) ps arrays types pc rc = all-append (all-temporaries s ps arrays types pc rc)
-      (all-block-temporaries b ps arrays types pc (rcAfter types arrays pc rc s))
+boolean-type = refl
 
 pub all-compiled : (ps : List Procedure) (arrays : List ℕ) (p : Procedure) → AllTypes (p .types) → typeWord (p .result) ≡ true → AllTypes (compiledTypes ps arrays p)
-unfolding compiledTypes
+unfolding compiledTypes typeWord
 all-compiled ps arrays p h r =
-    all-append (all-take (p .parameters) h) (all-append (guard (guarded p)) (all-append (all-drop (p .parameters) h)
-    (all-append (deferred (defers arrays p)) (all-block-temporaries (p .body) ps arrays (p .types) (guarded p) false))))
+    all-append (all-take (p .parameters) h) (all-append (single (guarded p) secretBoolean boolean-type) (all-append (all-drop (p .parameters) h)
+    (all-append (deferred (defers arrays p)) (all-append (all-alike (2 * levels arrays p) secretBoolean boolean-type)
+    (all-append (single (needed ps arrays p wordSort) (secretOf wordSort) refl) (single (needed ps arrays p booleanSort) secretBoolean boolean-type))))))
   where
-    boolean-type : typeWord secretBoolean ≡ true
-    boolean-type = secret-type 2
-
-    guard : (g : Bool) → AllTypes (pick g (secretBoolean ∷ []) [])
-    guard true = more-types boolean-type no-types
-    guard false = no-types
+    single : (b : Bool) (w : ℕ) → typeWord w ≡ true → AllTypes (pick b (w ∷ []) [])
+    single true w h = more-types h no-types
+    single false w h = no-types
 
     deferred : (d : Bool) → AllTypes (pick d (p .result ∷ secretBoolean ∷ []) [])
     deferred true = more-types r (more-types boolean-type no-types)

@@ -6,11 +6,10 @@ use native.Mathlib.Omega.{arith}
 use lib.ListN.{length}
 use Rattle.definitions.specs.Image.{Expression, constant, boolean, variable, cell, unary, binary, select, Statement}
 use Rattle.definitions.specs.Image.{assign, store, conditional, loop, return, call, Block, done, sequence, Procedure}
-use Rattle.definitions.specs.Image.{guarded, procedureAt}
+use Rattle.definitions.specs.Image.{guarded, procedureAt, typeSort}
 use Rattle.definitions.specs.Labels.{secretIn, rcAfter, rcAfterBlock}
-use Rattle.definitions.specs.Compiling.{renamed, moved, movedAll, act, masked, under, followedBy, temporaries}
-use Rattle.definitions.specs.Compiling.{blockTemporaries, compiledIf, compiledReturn, compiledCall, compiledStatement}
-use Rattle.definitions.specs.Compiling.{compiledBlock, closed}
+use Rattle.definitions.specs.Compiling.{renamed, moved, movedAll, act, masked, under, followedBy, ArmCode, compiledIf}
+use Rattle.definitions.specs.Compiling.{compiledReturn, compiledCall, compiledStatement, compiledBlock, closed}
 use Rattle.statements.specs.Limits.{FitsExpression, fit-constant, fit-boolean, fit-variable, fit-cell, fit-unary, fit-binary}
 use Rattle.statements.specs.Limits.{fit-select, FitsAll, fit-none, fit-more, FitsStatement, fit-assign, fit-store}
 use Rattle.statements.specs.Limits.{fit-conditional, fit-loop, fit-return, fit-call, FitsBlock, fit-block, FitsStatements}
@@ -137,26 +136,26 @@ deep-call-parts false true a first k f x {es} y fits = deep-step (deep-call (dee
 deep-call-parts false false a first k f x {es} y fits = deep-step (deep-call (deep-moved-all first fits [] deep-none)) deep-done
 
 deep-if :
-    (s pc : Bool) (arm : ℕ) (rc : Bool) (live k : ℕ) (c : Expression) (size : ℕ) (ax ay : Bool → ℕ → ℕ → Block) {l : ℕ} → DeepExpression l c
+    (s pc : Bool) (arm : ℕ) (rc : Bool) (live k : ℕ) (c : Expression) (ax ay : ArmCode) {l : ℕ} → DeepExpression l c
     → ((q : Bool) (v n : ℕ) → DeepBlock (suc (suc (suc l))) (ax q v n)) → ((q : Bool) (v n : ℕ) → DeepBlock (suc (suc (suc l))) (ay q v n))
-    → DeepStatements (suc (suc (suc (suc l)))) (compiledIf s pc arm rc live k c size ax ay)
+    → DeepStatements (suc (suc (suc (suc l)))) (compiledIf s pc arm rc live k c ax ay)
 unfolding compiledIf
-deep-if true pc arm rc live k c size ax ay x fx fy =
+deep-if true pc arm rc live k c ax ay x fx fy =
     deep-step (deep-assign (deep-under (pc || rc) (act pc arm rc live) c (deep-act pc arm rc live) (raise (raise x))))
     (deep-step (deep-assign (deep-under (pc || rc) (act pc arm rc live) (unary 0 0 (variable 0 k)) (deep-act pc arm rc live) (deep-unary deep-variable)))
-    (deep-followed (inline (fx true k (k + 2))) (inline (fy true (k + 1) (k + 2 + size)))))
+    (deep-followed (inline (fx true k (k + 2))) (inline (fy true (k + 1) (k + 2)))))
   where
     inline : {m : ℕ} {b : Block} → DeepBlock m b → DeepStatements (suc m) b
     inline (deep-block b) = raise-statements (raise-statements b)
-deep-if false pc arm rc live k c size ax ay x fx fy = deep-step (deep-conditional (raise (raise (raise x))) (fx pc arm k) (fy pc arm (k + size))) deep-done
+deep-if false pc arm rc live k c ax ay x fx fy = deep-step (deep-conditional (raise (raise (raise x))) (fx pc arm k) (fy pc arm k)) deep-done
 
-module _ (ps : List Procedure) (arrays types : List ℕ) (first rv : ℕ) (arity : ℕ → ℕ) (me : ℕ) where
+module _ (ps : List Procedure) (arrays types : List ℕ) (first rv : ℕ) (temporary arity : ℕ → ℕ) (me : ℕ) where
   mutual
     unfolding compiledStatement compiledBlock
 
     pub deep-statement :
         {l : ℕ} {s : Statement} → FitsStatement arity me l s → (pc : Bool) (arm : ℕ) (rc : Bool) (k : ℕ)
-        → DeepStatements (suc (suc (suc l))) (compiledStatement ps arrays types first rv s pc arm rc k)
+        → DeepStatements (suc (suc (suc l))) (compiledStatement ps arrays types first rv temporary s pc arm rc k)
     deep-statement (fit-assign {x = x} {e} h f) pc arm rc k =
         deep-step (deep-assign (deep-masked (pc || rc) (act pc arm rc (rv + 1)) (moved first e) (variable 0 (renamed first x)) (deep-act pc arm rc (rv + 1))
         (raise (raise (deep-moved first f))) deep-variable)) deep-done
@@ -165,8 +164,8 @@ module _ (ps : List Procedure) (arrays types : List ℕ) (first rv : ℕ) (arity
         (deep-masked (pc || rc) (act pc arm rc (rv + 1)) (moved first e) (cell 0 y (moved first i)) (deep-act pc arm rc (rv + 1)) (raise (raise (deep-moved first g)))
         (deep-cell (raise (deep-moved first f))))) deep-done
     deep-statement (fit-conditional {c = c} {a} {b} f g h) pc arm rc k =
-        deep-if (secretIn types arrays c) pc arm rc (rv + 1) k (moved first c) (length (blockTemporaries ps arrays types (pc || secretIn types arrays c) rc a))
-        (λ q v n. compiledBlock ps arrays types first rv a q v rc n) (λ q v n. compiledBlock ps arrays types first rv b q v rc n)
+        deep-if (secretIn types arrays c) pc arm rc (rv + 1) k (moved first c)
+        (λ q v n. compiledBlock ps arrays types first rv temporary a q v rc n) (λ q v n. compiledBlock ps arrays types first rv temporary b q v rc n)
         (deep-moved first f) (λ q v n. deep-compiled g q v rc n) (λ q v n. deep-compiled h q v rc n)
     deep-statement (fit-loop {x = x} {f} {t} {b} h i j g) pc arm rc k =
         deep-step (deep-loop (raise (raise (raise (deep-moved first i)))) (raise (raise (raise (deep-moved first j))))
@@ -174,19 +173,20 @@ module _ (ps : List Procedure) (arrays types : List ℕ) (first rv : ℕ) (arity
     deep-statement (fit-return {e = e} f) pc arm rc k =
         deep-return-parts (pc || rc) (act pc arm rc (rv + 1)) rv (moved first e) (deep-act pc arm rc (rv + 1)) (raise (raise (deep-moved first f)))
     deep-statement (fit-call {f = f} {x} {es} low g count fs) pc arm rc k =
-        deep-call-parts (pc || rc) (guarded (procedureAt ps f)) (act pc arm rc (rv + 1)) first k f (renamed first x) (deep-act pc arm rc (rv + 1)) fs
+        deep-call-parts (pc || rc) (guarded (procedureAt ps f)) (act pc arm rc (rv + 1)) first (temporary (typeSort (procedureAt ps f .result))) f
+        (renamed first x) (deep-act pc arm rc (rv + 1)) fs
 
     pub deep-compiled :
         {l : ℕ} {b : Block} → FitsBlock arity me l b → (pc : Bool) (arm : ℕ) (rc : Bool) (k : ℕ)
-        → DeepBlock (suc (suc (suc l))) (compiledBlock ps arrays types first rv b pc arm rc k)
+        → DeepBlock (suc (suc (suc l))) (compiledBlock ps arrays types first rv temporary b pc arm rc k)
     deep-compiled (fit-block f) pc arm rc k = deep-block (deep-statements f pc arm rc k)
 
     pub deep-statements :
         {l : ℕ} {b : Block} → FitsStatements arity me l b → (pc : Bool) (arm : ℕ) (rc : Bool) (k : ℕ)
-        → DeepStatements (suc (suc (suc l))) (compiledBlock ps arrays types first rv b pc arm rc k)
+        → DeepStatements (suc (suc (suc l))) (compiledBlock ps arrays types first rv temporary b pc arm rc k)
     deep-statements fit-done pc arm rc k = deep-done
     deep-statements (fit-sequence {s = s} f g) pc arm rc k =
-        deep-followed (deep-statement f pc arm rc k) (deep-statements g pc arm (rcAfter types arrays pc rc s) (k + length (temporaries ps arrays types pc rc s)))
+        deep-followed (deep-statement f pc arm rc k) (deep-statements g pc arm (rcAfter types arrays pc rc s) k)
 
 -- the whole body
 pub deep-closed : (d : Bool) (rv : ℕ) {l : ℕ} {b : Block} → DeepStatements (suc (suc l)) b → DeepStatements (suc (suc l)) (closed d rv b)

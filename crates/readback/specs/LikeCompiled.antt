@@ -4,16 +4,17 @@ use Prim.Native.Nat.{ℕ, _+_}
 use mathlib.Core.Bool.{Bool, true, false, _||_}
 use mathlib.Core.List.{List, [], _∷_, _++_, map}
 use mathlib.Core.Path.{_≡_, refl, sym}
-use lib.ListN.{length}
 use Rattle.definitions.specs.Choice.{pick}
+use Rattle.definitions.specs.Operators.{wordSort, booleanSort}
 use Rattle.definitions.specs.Image.{Expression, constant, boolean, variable, cell, unary, binary, select, Statement}
-use Rattle.definitions.specs.Image.{Block, done, sequence, Procedure, Image, procedureAt, guarded}
+use Rattle.definitions.specs.Image.{Block, done, sequence, Procedure, Image, procedureAt, guarded, typeSort}
 use Rattle.definitions.specs.Labels.{secretIn, rcAfter, rcAfterBlock}
 use Rattle.definitions.specs.Encoding.{imageWords}
-use Rattle.definitions.specs.Compiling.{renamed, moved, movedAll, act, masked, under, followedBy, temporaries, blockTemporaries}
-use Rattle.definitions.specs.Compiling.{ArmCode, compiledIf, compiledReturn, compiledCall, compiledStatement, compiledBlock}
-use Rattle.definitions.specs.Compiling.{returnVariable, firstTemporary, firstMoved, defers, closed, compiledTypes, compiledBody}
-use Rattle.definitions.specs.Compiling.{compiledProcedure, compiledProcedures, compiledImage, fitLocals, fits}
+use Rattle.definitions.specs.Compiling.{renamed, moved, movedAll, act, masked, under, followedBy, statementNesting}
+use Rattle.definitions.specs.Compiling.{blockNesting, statementNeeds, blockNeeds, ArmCode, compiledIf, compiledReturn}
+use Rattle.definitions.specs.Compiling.{compiledCall, compiledStatement, compiledBlock, returnVariable, firstPair, firstMoved}
+use Rattle.definitions.specs.Compiling.{defers, closed, temporaryOf, compiledTypes, compiledBody, compiledProcedure}
+use Rattle.definitions.specs.Compiling.{compiledProcedures, compiledImage, fitLocals, fits}
 use Rattle.readback.specs.Like.{LikeExpression, like-constant, like-boolean, like-variable, like-cell, like-unary}
 use Rattle.readback.specs.Like.{like-binary, like-select, LikeAll, like-none, like-more, LikeStatement}
 use Rattle.readback.specs.Like.{like-assign, like-store, like-conditional, like-loop, like-return, like-call}
@@ -73,14 +74,14 @@ like-followed (like-step s x) y = like-step s (like-followed x y)
 like-one : {s t : Statement} (p q : ℕ) → LikeStatement s t → LikeBlock (sequence p s done) (sequence q t done)
 like-one p q x = like-step x like-done
 
-like-if : (secret pc : Bool) (arm : ℕ) (rc : Bool) (live k : ℕ) {c d : Expression} (size : ℕ) {a b a′ b′ : ArmCode} → LikeExpression c d
+like-if : (secret pc : Bool) (arm : ℕ) (rc : Bool) (live k : ℕ) {c d : Expression} {a b a′ b′ : ArmCode} → LikeExpression c d
     → ((q : Bool) (v n : ℕ) → LikeBlock (a q v n) (a′ q v n)) → ((q : Bool) (v n : ℕ) → LikeBlock (b q v n) (b′ q v n))
-    → LikeBlock (compiledIf secret pc arm rc live k c size a b) (compiledIf secret pc arm rc live k d size a′ b′)
+    → LikeBlock (compiledIf secret pc arm rc live k c a b) (compiledIf secret pc arm rc live k d a′ b′)
 unfolding compiledIf
-like-if true pc arm rc live k size x y z =
+like-if true pc arm rc live k x y z =
     like-step (like-assign (like-under (pc || rc) (act pc arm rc live) x))
-    (like-step (like-assign (like-itself _)) (like-followed (y true k (k + 2)) (z true (k + 1) (k + 2 + size))))
-like-if false pc arm rc live k size x y z = like-one 0 0 (like-conditional x (y pc arm k) (z pc arm (k + size)))
+    (like-step (like-assign (like-itself _)) (like-followed (y true k (k + 2)) (z true (k + 1) (k + 2))))
+like-if false pc arm rc live k x y z = like-one 0 0 (like-conditional x (y pc arm k) (z pc arm k))
 
 like-return-code : (context : Bool) (a : Expression) (rv : ℕ) {e f : Expression} → LikeExpression e f
     → LikeBlock (compiledReturn context a rv e) (compiledReturn context a rv f)
@@ -102,59 +103,76 @@ like-call-code false guard a k f x l = like-one 0 0 (like-call (like-append l (l
     last true = like-more like-boolean like-none
     last false = like-none
 
-module _ {ps qs : List Procedure} (alike : LikeProcedures ps qs) (arrays types : List ℕ) where
+module _ (arrays types : List ℕ) where
   mutual
-    unfolding temporaries blockTemporaries
+    unfolding statementNesting blockNesting
 
-    like-temporaries : (pc rc : Bool) {s t : Statement} → LikeStatement s t → temporaries qs arrays types pc rc t ≡ temporaries ps arrays types pc rc s
-    like-temporaries pc rc (like-assign e) = refl
-    like-temporaries pc rc (like-store i e) = refl
-    like-temporaries pc rc (like-conditional {c = d} c a b) =
-        rw (
-          like-secret types arrays c,
-          like-block-temporaries (pc || secretIn types arrays d) rc a,
-          like-block-temporaries (pc || secretIn types arrays d) rc b,
-        )
-    like-temporaries pc rc (like-loop {b = b} f t m) =
-        rw (same-rc-block types arrays pc rc m) (like-block-temporaries pc (rcAfterBlock types arrays pc rc b) m)
-    like-temporaries pc rc (like-return e) = refl
-    like-temporaries pc rc (like-call {f = f} es) = rw (sym (like-at alike f .results))
+    like-nesting : {s t : Statement} → LikeStatement s t → statementNesting arrays types t ≡ statementNesting arrays types s
+    like-nesting (like-assign e) = refl
+    like-nesting (like-store i e) = refl
+    like-nesting (like-conditional c a b) = rw (like-secret types arrays c, like-block-nesting a, like-block-nesting b)
+    like-nesting (like-loop f t m) = like-block-nesting m
+    like-nesting (like-return e) = refl
+    like-nesting (like-call es) = refl
 
-    like-block-temporaries : (pc rc : Bool) {b c : Block} → LikeBlock b c → blockTemporaries qs arrays types pc rc c ≡ blockTemporaries ps arrays types pc rc b
-    like-block-temporaries pc rc like-done = refl
-    like-block-temporaries pc rc (like-step {s = s} x y) =
-        rw (like-temporaries pc rc x, same-rc types arrays pc rc x, like-block-temporaries pc (rcAfter types arrays pc rc s) y)
+    like-block-nesting : {b c : Block} → LikeBlock b c → blockNesting arrays types c ≡ blockNesting arrays types b
+    like-block-nesting like-done = refl
+    like-block-nesting (like-step x y) = rw (like-nesting x, like-block-nesting y)
 
-  module _ (first rv : ℕ) where
+module _ {ps qs : List Procedure} (alike : LikeProcedures ps qs) (arrays types : List ℕ) where
+  module _ (sort : ℕ) where
+    mutual
+      unfolding statementNeeds blockNeeds
+
+      like-needs : (pc rc : Bool) {s t : Statement} → LikeStatement s t
+          → statementNeeds qs arrays types sort pc rc t ≡ statementNeeds ps arrays types sort pc rc s
+      like-needs pc rc (like-assign e) = refl
+      like-needs pc rc (like-store i e) = refl
+      like-needs pc rc (like-conditional {c = d} c a b) =
+          rw (
+            like-secret types arrays c,
+            like-block-needs (pc || secretIn types arrays d) rc a,
+            like-block-needs (pc || secretIn types arrays d) rc b,
+          )
+      like-needs pc rc (like-loop {b = b} f t m) =
+          rw (same-rc-block types arrays pc rc m) (like-block-needs pc (rcAfterBlock types arrays pc rc b) m)
+      like-needs pc rc (like-return e) = refl
+      like-needs pc rc (like-call {f = f} es) = rw (sym (like-at alike f .results))
+
+      like-block-needs : (pc rc : Bool) {b c : Block} → LikeBlock b c
+          → blockNeeds qs arrays types sort pc rc c ≡ blockNeeds ps arrays types sort pc rc b
+      like-block-needs pc rc like-done = refl
+      like-block-needs pc rc (like-step {s = s} x y) =
+          rw (like-needs pc rc x, same-rc types arrays pc rc x, like-block-needs pc (rcAfter types arrays pc rc s) y)
+
+  module _ (first rv : ℕ) (temporary : ℕ → ℕ) where
     mutual
       unfolding compiledStatement compiledBlock
 
       like-statement-code : {s t : Statement} → LikeStatement s t → (pc : Bool) (arm : ℕ) (rc : Bool) (k : ℕ)
-          → LikeBlock (compiledStatement ps arrays types first rv s pc arm rc k) (compiledStatement qs arrays types first rv t pc arm rc k)
+          → LikeBlock (compiledStatement ps arrays types first rv temporary s pc arm rc k) (compiledStatement qs arrays types first rv temporary t pc arm rc k)
       like-statement-code (like-assign e) pc arm rc k =
           like-one 0 0 (like-assign (like-masked (pc || rc) (act pc arm rc (rv + 1)) (like-moved first e) like-variable))
       like-statement-code (like-store i e) pc arm rc k =
           like-one 0 0 (like-store (like-moved first i)
           (like-masked (pc || rc) (act pc arm rc (rv + 1)) (like-moved first e) (like-cell (like-moved first i))))
-      like-statement-code (like-conditional {c = d} {a = a} c x y) pc arm rc k =
-          rw (like-secret types arrays c, like-block-temporaries (pc || secretIn types arrays d) rc x)
-          (like-if (secretIn types arrays d) pc arm rc (rv + 1) k (length (blockTemporaries ps arrays types (pc || secretIn types arrays d) rc a))
-          (like-moved first c) (λ q v n. like-block-code x q v rc n) (λ q v n. like-block-code y q v rc n))
+      like-statement-code (like-conditional {c = d} c x y) pc arm rc k =
+          rw (like-secret types arrays c)
+          (like-if (secretIn types arrays d) pc arm rc (rv + 1) k (like-moved first c) (λ q v n. like-block-code x q v rc n) (λ q v n. like-block-code y q v rc n))
       like-statement-code (like-loop {b = b} f t m) pc arm rc k =
           rw (same-rc-block types arrays pc rc m)
           (like-one 0 0 (like-loop (like-moved first f) (like-moved first t) (like-block-code m pc arm (rcAfterBlock types arrays pc rc b) k)))
       like-statement-code (like-return e) pc arm rc k = like-return-code (pc || rc) (act pc arm rc (rv + 1)) rv (like-moved first e)
       like-statement-code (like-call {f = f} {x} es) pc arm rc k =
-          rw (sym (like-at alike f .modes))
-          (like-call-code (pc || rc) (guarded (procedureAt ps f)) (act pc arm rc (rv + 1)) k f (renamed first x) (like-moved-all first es))
+          rw (sym (like-at alike f .modes), sym (like-at alike f .results))
+          (like-call-code (pc || rc) (guarded (procedureAt ps f)) (act pc arm rc (rv + 1)) (temporary (typeSort (procedureAt ps f .result))) f (renamed first x)
+          (like-moved-all first es))
 
       like-block-code : {b c : Block} → LikeBlock b c → (pc : Bool) (arm : ℕ) (rc : Bool) (k : ℕ)
-          → LikeBlock (compiledBlock ps arrays types first rv b pc arm rc k) (compiledBlock qs arrays types first rv c pc arm rc k)
+          → LikeBlock (compiledBlock ps arrays types first rv temporary b pc arm rc k) (compiledBlock qs arrays types first rv temporary c pc arm rc k)
       like-block-code like-done pc arm rc k = like-done
       like-block-code (like-step {s = s} x y) pc arm rc k =
-          rw (same-rc types arrays pc rc x, like-temporaries pc rc x)
-          (like-followed (like-statement-code x pc arm rc k)
-          (like-block-code y pc arm (rcAfter types arrays pc rc s) (k + length (temporaries ps arrays types pc rc s))))
+          rw (same-rc types arrays pc rc x) (like-followed (like-statement-code x pc arm rc k) (like-block-code y pc arm (rcAfter types arrays pc rc s) k))
 
 -- ---- procedures and images
 
@@ -173,15 +191,29 @@ module _ {ps qs : List Procedure} (alike : LikeProcedures ps qs) (arrays : List 
         sym (l .results),
         sym (l .modes),
         same-rc-block (p .types) arrays (guarded p) false (l .bodies),
-        like-block-temporaries alike arrays (p .types) (guarded p) false (l .bodies),
+        like-block-nesting arrays (p .types) (l .bodies),
+        like-block-needs alike arrays (p .types) wordSort (guarded p) false (l .bodies),
+        like-block-needs alike arrays (p .types) booleanSort (guarded p) false (l .bodies),
+      )
+
+  like-temporary : (p q : Procedure) → LikeProcedure p q → (sort : ℕ) → temporaryOf qs arrays q sort ≡ temporaryOf ps arrays p sort
+  like-temporary p q l sort =
+      rw (
+        sym (l .types),
+        sym (l .modes),
+        same-rc-block (p .types) arrays (guarded p) false (l .bodies),
+        like-block-nesting arrays (p .types) (l .bodies),
+        like-block-needs alike arrays (p .types) wordSort (guarded p) false (l .bodies),
       )
 
   like-body : (p q : Procedure) → LikeProcedure p q → LikeBlock (compiledBody ps arrays p) (compiledBody qs arrays q)
   unfolding compiledBody
   like-body p q l =
-      rw (sym (l .types), sym (l .parameters), sym (l .modes), same-rc-block (p .types) arrays (guarded p) false (l .bodies))
+      let same : temporaryOf qs arrays q ≡ temporaryOf ps arrays p = λ i. λ sort. like-temporary p q l sort i in
+      rw (same, sym (l .types), sym (l .parameters), sym (l .modes), same-rc-block (p .types) arrays (guarded p) false (l .bodies))
       (like-closed (defers arrays p) (returnVariable p)
-      (like-block-code alike arrays (p .types) (firstMoved p) (returnVariable p) (l .bodies) (guarded p) (p .parameters) false (firstTemporary arrays p)))
+      (like-block-code alike arrays (p .types) (firstMoved p) (returnVariable p) (temporaryOf ps arrays p) (l .bodies)
+      (guarded p) (p .parameters) false (firstPair arrays p)))
 
   like-procedure-code : (p q : Procedure) → LikeProcedure p q → LikeProcedure (compiledProcedure ps arrays p) (compiledProcedure qs arrays q)
   unfolding compiledProcedure

@@ -1,5 +1,5 @@
 -- Calls without a fault are compiled to good ones: their arguments, the guard, the result. Assumes nothing.
-use Prim.Native.Nat.{ℕ, _+_, _%_, _≤_, _<_}
+use Prim.Native.Nat.{ℕ, _+_, _%_, _<_}
 use mathlib.Core.Bool.{Bool, true, false, _&&_, _||_, not}
 use mathlib.Core.List.{List, [], _∷_, _++_}
 use mathlib.Core.Path.{_≡_, refl, ap, sym, _∙_}
@@ -17,17 +17,15 @@ use Rattle.definitions.specs.Faults.{faultIf}
 use Rattle.definitions.specs.Sorts.{sortOf, sortIn, wrongSort, ordinary, operandFaults, argumentFaults}
 use Rattle.definitions.specs.Sorts.{statementSortFaults}
 use Rattle.definitions.specs.Labels.{secretIn, labelFaults, argumentLabelFaults, statementLabelFaults, rcAfter}
-use Rattle.definitions.specs.Compiling.{secretOf, renamed, movedAll, act, callTemporary, temporaries, compiledCall}
-use Rattle.definitions.specs.Compiling.{compiledStatement}
+use Rattle.definitions.specs.Compiling.{secretOf, renamed, movedAll, act, statementNeeds, compiledCall, compiledStatement}
 use Rattle.laws.specs.Tests.{false-true, and-false, nil-left, nil-right, kept}
-use Rattle.laws.specs.Spelled.{On, on-first}
 use Rattle.statements.specs.Limits.{FitsAll, fit-none, fit-more, arityOf}
 use Rattle.readback.specs.Clean.{sink, source, sorts-agree}
 use Rattle.readback.specs.Good.{GoodExpression, good-boolean, good-select, GoodArguments, good-none, good-more}
 use Rattle.readback.specs.Good.{good-assign, good-call, good-done, good-step}
 use Rattle.readback.specs.Source.{type-known, variable-known}
 use Rattle.readback.specs.Renaming.{Marked}
-use Rattle.readback.specs.Setting.{Callee, Setting, inside-room, beyond, variable-sort, sort-moved, secret-moved}
+use Rattle.readback.specs.Setting.{Callee, Setting, inside-room, variable-sort, sort-moved, secret-moved}
 use Rattle.readback.specs.Setting.{good-moved, Slot, Good′, slot-sort, slot-mark, old-mark, old-good, slot-good}
 use Rattle.readback.specs.Setting.{act-good, operand-good, StatementGood, keeps}
 
@@ -47,7 +45,7 @@ length-moved first [] = refl
 length-moved first (e ∷ es) = rw (length-moved first es)
 
 module _ (here : Setting) where
-  open Setting here using (ps, ps′, arrays, types, types′, me, first, rv, typed, callee)
+  open Setting here using (ps, ps′, arrays, types, types′, me, first, rv, temporary, typed, callee)
 
   arguments-good :
       {l : ℕ} {es : List Expression} → FitsAll l es → (marks marks′ : List ℕ) (bounds : List ConstantLoop) (context : Bool) → Marked first (length types) marks marks′ → (q q′ : Procedure) → Callee q q′
@@ -73,36 +71,37 @@ module _ (here : Setting) where
       (arguments-good fits marks marks′ bounds context m q q′ c (k + 1) (omega arith) (nil-right fₑ fs s) (nil-right f₉ ls l₁) extra g)
 
   call-parts :
-      (b g : Bool) (f x k end : ℕ) (act′ : Expression) (es : List Expression) (marks marks′ : List ℕ) → Marked first (length types) marks marks′ → rv ≤ k → f < me
-      → guarded (procedureAt ps f) ≡ g → On types′ k (callTemporary b ps f) end → (b ≡ true → GoodExpression types′ arrays marks′ act′ × (sortIn types′ act′ ≡ booleanSort))
+      (b g : Bool) (f x y : ℕ) (act′ : Expression) (es : List Expression) (marks marks′ : List ℕ) → Marked first (length types) marks marks′ → f < me
+      → guarded (procedureAt ps f) ≡ g → (b ≡ true → Slot here y (secretOf (typeSort (procedureAt ps f .result))))
+      → (b ≡ true → GoodExpression types′ arrays marks′ act′ × (sortIn types′ act′ ≡ booleanSort))
       → x < length types → eqb (getD marks x 0) ordinary ≡ true → sortOf types x ≡ typeSort (procedureAt ps f .result)
       → ((typeSecret (procedureAt ps f .result) || b) && not (typeSecret (getD types x 0))) ≡ false → (b && not g) ≡ false → length es ≡ procedureAt ps f .parameters
       → ((extra : List Expression) → GoodArguments types′ arrays marks′ (procedureAt ps′ f .types) (procedureAt ps f .parameters) extra → GoodArguments types′ arrays marks′ (procedureAt ps′ f .types) 0 (movedAll first es ++ extra))
-      → Good′ here marks′ (compiledCall b g act′ k f (renamed first x) (movedAll first es))
+      → Good′ here marks′ (compiledCall b g act′ y f (renamed first x) (movedAll first es))
   unfolding compiledCall sortIn secretIn
-  call-parts true true f x k end act′ es marks marks′ m le low eg on active h o q flow need count args =
+  call-parts true true f x y act′ es marks marks′ m low eg slot active h o q flow need count args =
       let c = callee f low in
-      let (t, e, on₁) = on-first on in
-      let slot : Slot here k (secretOf (typeSort (procedureAt ps f .result))) = (t, beyond here k le, e) in
-      let label : typeSecret (getD types′ k 0) ≡ true = rw e (secret-label (typeSort (procedureAt ps f .result))) in
-      let sort : sortOf types′ k ≡ typeSort (procedureAt ps f .result) = slot-sort here k (secretOf (typeSort (procedureAt ps f .result))) slot ∙ secret-sort
+      let t = slot refl in
+      let label : typeSecret (getD types′ y 0) ≡ true = rw (t .2) (secret-label (typeSort (procedureAt ps f .result))) in
+      let sort : sortOf types′ y ≡ typeSort (procedureAt ps f .result) = slot-sort here y (secretOf (typeSort (procedureAt ps f .result))) t ∙ secret-sort
       (procedureAt ps f .result) in
       let total : length (movedAll first es ++ (act′ ∷ [])) ≡ procedureAt ps′ f .parameters
       = length-append (movedAll first es) (act′ ∷ []) ∙ ap (λ n. n + 1) (length-moved first es ∙ count) ∙ sym
       (c .parameters-kept ∙ ap (λ g. procedureAt ps f .parameters + pick g 1 0) eg) in
-      good-step (good-call low t (slot-mark here marks marks′ m k (secretOf (typeSort (procedureAt ps f .result))) slot) (sort ∙ sym (ap typeSort (c .result-kept)))
-      (and-false (typeSecret (procedureAt ps′ f .result)) (not (typeSecret (getD types′ k 0))) (rw label)) total
+      good-step (good-call low (t .0) (slot-mark here marks marks′ m y (secretOf (typeSort (procedureAt ps f .result))) t)
+      (sort ∙ sym (ap typeSort (c .result-kept)))
+      (and-false (typeSecret (procedureAt ps′ f .result)) (not (typeSecret (getD types′ y 0))) (rw label)) total
       (args (act′ ∷ []) (good-more (active refl .0) (active refl .1 ∙ sym (c .guard-sort eg))
       (and-false (secretIn types′ arrays act′) (not (typeSecret (getD (procedureAt ps′ f .types) (procedureAt ps f .parameters) 0)))
       (rw (c .guard-label eg))) good-none)))
       (good-step (good-assign (inside-room here x h) (old-mark here marks marks′ m x h o)
-      (good-select (active refl .0) (slot-good here marks marks′ m k (secretOf (typeSort (procedureAt ps f .result))) slot) (old-good here marks marks′ m x h o)
+      (good-select (active refl .0) (slot-good here marks marks′ m y (secretOf (typeSort (procedureAt ps f .result))) t) (old-good here marks marks′ m x h o)
       (active refl .1) (variable-sort here x h ∙ q ∙ sym sort))
       (sort ∙ sym q ∙ sym (variable-sort here x h))
-      (and-false (secretIn types′ arrays (select 0 act′ (variable 0 k) (variable 0 (renamed first x)))) (not (typeSecret (getD types′ (renamed first x) 0)))
+      (and-false (secretIn types′ arrays (select 0 act′ (variable 0 y) (variable 0 (renamed first x)))) (not (typeSecret (getD types′ (renamed first x) 0)))
       (rw (typed x h) (sink (typeSecret (procedureAt ps f .result)) (not (typeSecret (getD types x 0))) flow)))) good-done)
-  call-parts true false f x k end act′ es marks marks′ m le low eg on active h o q flow need count args = absurd (false-true (sym need))
-  call-parts false true f x k end act′ es marks marks′ m le low eg on active h o q flow need count args =
+  call-parts true false f x y act′ es marks marks′ m low eg slot active h o q flow need count args = absurd (false-true (sym need))
+  call-parts false true f x y act′ es marks marks′ m low eg slot active h o q flow need count args =
       let c = callee f low in
       let total : length (movedAll first es ++ (boolean 0 1 ∷ [])) ≡ procedureAt ps′ f .parameters
       = length-append (movedAll first es) (boolean 0 1 ∷ []) ∙ ap (λ n. n + 1) (length-moved first es ∙ count) ∙ sym
@@ -111,7 +110,7 @@ module _ (here : Setting) where
       (rw (typed x h, c .result-kept) (source (typeSecret (procedureAt ps f .result)) (not (typeSecret (getD types x 0))) flow)) total
       (args (boolean 0 1 ∷ []) (good-more (good-boolean {v = 1} (omega arith)) (sym (c .guard-sort eg)) refl good-none)))
       good-done
-  call-parts false false f x k end act′ es marks marks′ m le low eg on active h o q flow need count args =
+  call-parts false false f x y act′ es marks marks′ m low eg slot active h o q flow need count args =
       let c = callee f low in
       let total : length (movedAll first es ++ []) ≡ procedureAt ps′ f .parameters
       = length-append (movedAll first es) [] ∙ add-zero (length (movedAll first es)) ∙ (length-moved first es ∙ count) ∙ sym
@@ -121,8 +120,8 @@ module _ (here : Setting) where
       good-done
 
   pub call-good : {l : ℕ} (f x : ℕ) (es : List Expression) → f < me → length es ≡ arityOf ps f → FitsAll l es → StatementGood here (call f x es)
-  unfolding statementSortFaults statementLabelFaults compiledStatement temporaries rcAfter
-  call-good f x es low count fits pc arm rc k end marks marks′ bounds p m a d le on s l =
+  unfolding statementSortFaults statementLabelFaults compiledStatement statementNeeds rcAfter
+  call-good f x es low count fits pc arm rc k marks marks′ bounds p m a d pairs temporaries s l =
       let r = procedureAt ps f .result in
       let f₆ = faultIf (leb (length types) x) 6 p in
       let f₈ = faultIf (not (eqb (getD marks x 0) ordinary)) 8 p in
@@ -136,7 +135,8 @@ module _ (here : Setting) where
       let l₁ = nil-right f₉ (f₁₂ ++ ls) l in
       let h = leb-false (length types) x (kept (leb (length types) x) 6 p (nil-left f₆ (f₈ ++ (f₇ ++ fs)) s)) in
       let o = not-false (eqb (getD marks x 0) ordinary) (kept (not (eqb (getD marks x 0) ordinary)) 8 p (nil-left f₈ (f₇ ++ fs) s₁)) in
-      call-parts (pc || rc) (guarded (procedureAt ps f)) f x k end (act pc arm rc (rv + 1)) es marks marks′ m le low refl on
+      call-parts (pc || rc) (guarded (procedureAt ps f)) f x (temporary (typeSort r)) (act pc arm rc (rv + 1)) es marks marks′ m low refl
+      (λ e. temporaries (typeSort r) (omega arith) (rw (e, eq-eqb (typeSort r) (typeSort r) refl)))
       (act-good here marks marks′ m pc arm rc a (keeps here (call f x es) pc rc d)) h o
       (sorts-agree (typeSort r) (sortOf types x) p (nil-left f₇ fs s₂) (type-known r) (variable-known types x h))
       (kept ((typeSecret r || (pc || rc)) && not (typeSecret (getD types x 0))) 9 p (nil-left f₉ (f₁₂ ++ ls) l))

@@ -20,6 +20,10 @@ use Rattle.readback.specs.Good.{good-binary, good-select}
 abbrev pub Fresh : ℕ → ℕ → ℕ → Type 0
 Fresh first n y = (x : ℕ) → x < n → renamed first x ≡ y → ⊥
 
+-- one that the compiler adds to them, with its type word
+abbrev pub Added : ℕ → ℕ → List ℕ → ℕ → ℕ → Type 0
+Added first n types′ y t = (y < length types′) × Fresh first n y × (getD types′ y 0 ≡ t)
+
 pub renamed-one : (first x y : ℕ) → renamed first x ≡ renamed first y → x ≡ y
 renamed-one first x y = go (ltb x first) refl (ltb y first) refl
   where

@@ -1,6 +1,6 @@
 -- What a compiled procedure has beside its source's variables, and the parts that the compiler makes of it: the act, masked values.
 -- Assumes nothing.
-use Prim.Native.Nat.{ℕ, _+_, _≤_, _<_}
+use Prim.Native.Nat.{ℕ, _+_, _*_, _≤_, _<_}
 use mathlib.Core.Bool.{Bool, true, false, _&&_, _||_, not}
 use mathlib.Core.List.{List, []}
 use mathlib.Core.Path.{_≡_, refl, sym, _∙_}
@@ -17,16 +17,16 @@ use Rattle.definitions.specs.Sorts.{noSort, sortOf, sortIn, wrongSort, ordinary
 use Rattle.definitions.specs.Sorts.{statementSortFaults, blockSortFaults}
 use Rattle.definitions.specs.Labels.{secretIn, labelFaults, statementLabelFaults, blockLabelFaults, rcAfter}
 use Rattle.definitions.specs.Labels.{rcAfterBlock}
-use Rattle.definitions.specs.Compiling.{secretBoolean, renamed, moved, act, masked, under, followedBy, temporaries}
-use Rattle.definitions.specs.Compiling.{blockTemporaries, compiledStatement, compiledBlock, guards}
+use Rattle.definitions.specs.Compiling.{secretBoolean, secretOf, renamed, moved, act, masked, under, followedBy}
+use Rattle.definitions.specs.Compiling.{statementNesting, blockNesting, statementNeeds, blockNeeds, compiledStatement}
+use Rattle.definitions.specs.Compiling.{compiledBlock, guards}
 use Rattle.laws.specs.Tests.{false-true, and-false, nil-left, nil-right}
-use Rattle.laws.specs.Spelled.{On}
 use Rattle.statements.specs.Limits.{FitsExpression}
 use Rattle.readback.specs.Clean.{sink, source, sorts-agree}
 use Rattle.readback.specs.Good.{GoodExpression, good-variable, good-binary, good-select, GoodStatement}
 use Rattle.readback.specs.Good.{good-assign, GoodBlock, good-done, good-step}
 use Rattle.readback.specs.Source.{good-known, source-good}
-use Rattle.readback.specs.Renaming.{Fresh, Marked, renamed-sort, moved-sort, moved-secret, moved-good}
+use Rattle.readback.specs.Renaming.{Added, Marked, renamed-sort, moved-sort, moved-secret, moved-good}
 
 -- rc stays secret
 mutual
@@ -56,7 +56,8 @@ pub record Callee (p p′ : Procedure) : Type 0 where
   pub guard-label : guarded p ≡ true → typeSecret (getD (p′ .types) (p .parameters) 0) ≡ true
 
 -- One procedure and what it is compiled to: the image's form and procedures before and after, its array words; the procedure's type words before and
--- after, its number, its numbers of parameters before and after, its result's type word, the first variable that moves, and RV.
+-- after, its number, its numbers of parameters before and after, its result's type word, the first variable that moves, RV, and the temporary for
+-- results of each sort.
 pub record Setting : Type 0 where
   pub form : ℕ
   pub ps : List Procedure
@@ -70,6 +71,7 @@ pub record Setting : Type 0 where
   pub result : ℕ
   pub first : ℕ
   pub rv : ℕ
+  pub temporary : ℕ → ℕ
   pub typed : (x : ℕ) → x < length types → getD types′ (renamed first x) 0 ≡ getD types x 0
   pub below : (x : ℕ) → x < length types → renamed first x < rv
   pub room : rv ≤ length types′
@@ -78,13 +80,10 @@ pub record Setting : Type 0 where
   pub callee : (f : ℕ) → f < me → Callee (procedureAt ps f) (procedureAt ps′ f)
 
 module _ (here : Setting) where
-  open Setting here using (form, ps, ps′, arrays, types, types′, me, parameters, parameters′, result, first, rv, typed, below)
+  open Setting here using (form, ps, ps′, arrays, types, types′, me, parameters, parameters′, result, first, rv, temporary, typed, below)
 
   pub inside-room : (x : ℕ) → x < length types → renamed first x < length types′
   inside-room x h = let b = below x h in omega arith
-
-  pub beyond : (y : ℕ) → rv ≤ y → Fresh first (length types) y
-  beyond y h x g e = let b = below x g in absurd (omega arith)
 
   pub variable-sort : (x : ℕ) → x < length types → sortOf types′ (renamed first x) ≡ sortOf types x
   variable-sort x h = renamed-sort arrays types types′ first typed inside-room x h
@@ -102,11 +101,19 @@ module _ (here : Setting) where
 
   -- a variable that the compiler adds, with its type word
   abbrev pub Slot : ℕ → ℕ → Type 0
-  Slot y t = (y < length types′) × Fresh first (length types) y × (getD types′ y 0 ≡ t)
+  Slot y t = Added first (length types) types′ y t
 
   -- RV and LIVE
   abbrev pub Deferred : Type 0
   Deferred = Slot rv result × Slot (rv + 1) secretBoolean
+
+  -- T and E for so many levels, from k on
+  abbrev pub Pairs : ℕ → ℕ → Type 0
+  Pairs k n = (y : ℕ) → k ≤ y → y < k + 2 * n → Slot y secretBoolean
+
+  -- the temporary for results of each sort that needs one
+  abbrev pub Temporaries : (ℕ → Bool) → Type 0
+  Temporaries needs = (sort : ℕ) → sort < 2 → needs sort ≡ true → Slot (temporary sort) (secretOf sort)
 
   abbrev pub Good′ : List ℕ → Block → Type 0
   Good′ marks′ b = GoodBlock ps′ me parameters′ types′ result arrays marks′ b
@@ -199,17 +206,19 @@ module _ (here : Setting) where
   -- the types of the statement lemmas
   abbrev pub StatementGood : Statement → Type 0
   StatementGood s =
-      (pc : Bool) (arm : ℕ) (rc : Bool) (k end : ℕ) (marks marks′ : List ℕ) (bounds : List ConstantLoop) (p : ℕ) → Marked first (length types) marks marks′
-      → (pc ≡ true → Slot arm secretBoolean) → (rcAfter types arrays pc rc s ≡ true → Deferred) → rv ≤ k → On types′ k (temporaries ps arrays types pc rc s) end
+      (pc : Bool) (arm : ℕ) (rc : Bool) (k : ℕ) (marks marks′ : List ℕ) (bounds : List ConstantLoop) (p : ℕ) → Marked first (length types) marks marks′
+      → (pc ≡ true → Slot arm secretBoolean) → (rcAfter types arrays pc rc s ≡ true → Deferred) → Pairs k (statementNesting arrays types s)
+      → Temporaries (λ sort. statementNeeds ps arrays types sort pc rc s)
       → statementSortFaults ps parameters types result (length arrays) marks p s ≡ [] → statementLabelFaults form ps arrays types result bounds pc rc p s ≡ []
-      → Good′ marks′ (compiledStatement ps arrays types first rv s pc arm rc k)
+      → Good′ marks′ (compiledStatement ps arrays types first rv temporary s pc arm rc k)
 
   abbrev pub BlockGood : Block → Type 0
   BlockGood b =
-      (pc : Bool) (arm : ℕ) (rc : Bool) (k end : ℕ) (marks marks′ : List ℕ) (bounds : List ConstantLoop) → Marked first (length types) marks marks′
-      → (pc ≡ true → Slot arm secretBoolean) → (rcAfterBlock types arrays pc rc b ≡ true → Deferred) → rv ≤ k → On types′ k (blockTemporaries ps arrays types pc rc b) end
+      (pc : Bool) (arm : ℕ) (rc : Bool) (k : ℕ) (marks marks′ : List ℕ) (bounds : List ConstantLoop) → Marked first (length types) marks marks′
+      → (pc ≡ true → Slot arm secretBoolean) → (rcAfterBlock types arrays pc rc b ≡ true → Deferred) → Pairs k (blockNesting arrays types b)
+      → Temporaries (λ sort. blockNeeds ps arrays types sort pc rc b)
       → blockSortFaults ps parameters types result (length arrays) marks b ≡ [] → blockLabelFaults form ps arrays types result bounds pc rc b ≡ []
-      → Good′ marks′ (compiledBlock ps arrays types first rv b pc arm rc k)
+      → Good′ marks′ (compiledBlock ps arrays types first rv temporary b pc arm rc k)
 
   pub keeps : (s : Statement) (pc rc : Bool) → (rcAfter types arrays pc rc s ≡ true → Deferred) → rc ≡ true → Deferred
   keeps s pc rc d e = d (rw e (rc-stays types arrays s pc))

@@ -2,47 +2,47 @@
 -- Assumes nothing.
 use Prim.Native.Nat.{ℕ, _+_}
 use mathlib.Core.Bool.{Bool, true, false}
-use mathlib.Core.List.{List, _∷_}
+use mathlib.Core.List.{List}
 use mathlib.Core.Path.{_≡_, refl}
 use native.Mathlib.Omega.{arith}
 use lib.ListN.{length}
 use Rattle.definitions.specs.Image.{typeSecret, Statement, Block, done, sequence}
 use Rattle.definitions.specs.Sorts.{sortIn, statementSortFaults, blockSortFaults}
 use Rattle.definitions.specs.Labels.{secretIn, statementLabelFaults, blockLabelFaults, rcAfter, rcAfterBlock}
-use Rattle.definitions.specs.Compiling.{secretBoolean, temporaries, blockTemporaries, compiledBlock, closed}
-use Rattle.laws.specs.Tests.{and-not, nil-left, nil-right}
-use Rattle.laws.specs.Spelled.{On, on-first, on-split, on-end}
+use Rattle.definitions.specs.Compiling.{secretBoolean, blockNesting, statementNeeds, blockNeeds, compiledBlock, closed}
+use Rattle.laws.specs.Tests.{or-left, or-right, and-not, nil-left, nil-right}
 use Rattle.statements.specs.Limits.{FitsStatement, fit-assign, fit-store, fit-conditional, fit-loop, fit-return, fit-call}
 use Rattle.statements.specs.Limits.{FitsBlock, fit-block, FitsStatements, fit-done, fit-sequence, arityOf}
 use Rattle.readback.specs.Good.{good-boolean, good-return, good-done, good-step}
 use Rattle.readback.specs.Renaming.{Marked}
-use Rattle.readback.specs.Setting.{rc-block-stays, Setting, beyond, Deferred, Good′, slot-sort, followed}
+use Rattle.readback.specs.Setting.{rc-block-stays, Setting, Deferred, Good′, slot-sort, followed}
 use Rattle.readback.specs.Setting.{slot-good, slot-assign, StatementGood, BlockGood}
 use Rattle.readback.specs.Writes.{assign-good, store-good, return-good}
 use Rattle.readback.specs.Branches.{loop-good, conditional-good}
 use Rattle.readback.specs.Passing.{call-good}
 
 module _ (here : Setting) where
-  open Setting here using (form, ps, arrays, types, types′, me, parameters, result, first, rv)
+  open Setting here using (form, ps, arrays, types, me, parameters, result, first, rv)
 
   step-good : (p : ℕ) (s : Statement) (b : Block) → StatementGood here s → BlockGood here b → BlockGood here (sequence p s b)
-  unfolding blockSortFaults blockLabelFaults compiledBlock blockTemporaries rcAfterBlock
-  step-good p s b gs gb pc arm rc k end marks marks′ bounds m a d le on sorts labels =
-      let ts = temporaries ps arrays types pc rc s in
-      let tb = blockTemporaries ps arrays types pc (rcAfter types arrays pc rc s) b in
+  unfolding blockSortFaults blockLabelFaults compiledBlock blockNesting blockNeeds rcAfterBlock
+  step-good p s b gs gb pc arm rc k marks marks′ bounds m a d pairs temporaries sorts labels =
       let fs = statementSortFaults ps parameters types result (length arrays) marks p s in
       let fb = blockSortFaults ps parameters types result (length arrays) marks b in
       let ls = statementLabelFaults form ps arrays types result bounds pc rc p s in
-      let lb = blockLabelFaults form ps arrays types result bounds pc (rcAfter types arrays pc rc s) b in
-      let (mid, on₁, on₂) = on-split ts tb on in
-      let there : On types′ (k + length ts) tb end = rw (on-end on₁) on₂ in
+      let rc′ = rcAfter types arrays pc rc s in
+      let lb = blockLabelFaults form ps arrays types result bounds pc rc′ b in
+      let ns : ℕ → Bool = λ t. statementNeeds ps arrays types t pc rc s in
+      let nb : ℕ → Bool = λ t. blockNeeds ps arrays types t pc rc′ b in
       followed here
-      (gs pc arm rc k mid marks marks′ bounds p m a (λ e. d (rw e (rc-block-stays types arrays b pc))) le on₁ (nil-left fs fb sorts) (nil-left ls lb labels))
-      (gb pc arm (rcAfter types arrays pc rc s) (k + length ts) end marks marks′ bounds m a d (omega arith) there (nil-right fs fb sorts) (nil-right ls lb labels))
+      (gs pc arm rc k marks marks′ bounds p m a (λ e. d (rw e (rc-block-stays types arrays b pc))) (λ y h g. pairs y h (omega arith))
+      (λ t h e. temporaries t h (or-left (ns t) (nb t) e)) (nil-left fs fb sorts) (nil-left ls lb labels))
+      (gb pc arm rc′ k marks marks′ bounds m a d (λ y h g. pairs y h (omega arith))
+      (λ t h e. temporaries t h (or-right (ns t) (nb t) e)) (nil-right fs fb sorts) (nil-right ls lb labels))
 
   done-good : BlockGood here done
   unfolding compiledBlock
-  done-good pc arm rc k end marks marks′ bounds m a d le on sorts labels = good-done
+  done-good pc arm rc k marks marks′ bounds m a d pairs temporaries sorts labels = good-done
 
   -- Every statement and block.
   mutual
@@ -60,13 +60,6 @@ module _ (here : Setting) where
     pub statements-survive : {l : ℕ} {b : Block} → FitsStatements (arityOf ps) me l b → BlockGood here b
     statements-survive fit-done = done-good
     statements-survive (fit-sequence {p = p} {s} {b} f g) = step-good p s b (statement-survives f) (statements-survive g)
-
-  -- RV and LIVE, where they stand first of the variables that are added
-  pub deferred-stands : {end : ℕ} {ts : List ℕ} → On types′ rv (result ∷ secretBoolean ∷ ts) end → Deferred here
-  deferred-stands on =
-      let (h, e, on₁) = on-first on in
-      let (h′, e′, on₂) = on-first on₁ in
-      ((h, beyond here rv (omega arith), e), (h′, beyond here (rv + 1) (omega arith), e′))
 
   -- "LIVE := true opens the body, return RV closes it."
   pub body-closed :

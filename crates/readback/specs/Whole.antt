@@ -1,23 +1,22 @@
 -- A source image that was read and has no fault: its compiled image fits, and is good in each procedure. Assumes nothing.
 use Prim.Native.Nat.{ℕ, suc, _+_, _-_, _≤_, _<_}
 use mathlib.Core.Bool.{Bool, true, false}
-use mathlib.Core.List.{List, [], _∷_, _++_, flatMap}
+use mathlib.Core.List.{List, [], _∷_, flatMap}
 use mathlib.Core.Path.{_≡_, refl, ap, sym, _∙_}
 use native.Mathlib.Omega.{arith}
 use native.Mathlib.Nat.{zero-add, add-zero}
 use lib.Dec.{leb}
 use lib.ListN.{length, replicate}
 use borrow.Author.Tests.{leb-true}
-use Rattle.definitions.specs.Choice.{pick}
 use Rattle.definitions.specs.Image.{largestLevel, Block, Procedure, Image, guarded, procedureAt}
 use Rattle.definitions.specs.Sorts.{ordinary, markBlock, procedureSortFaults, proceduresSortFaults, imageSortFaults}
 use Rattle.definitions.specs.Labels.{unbounded, blockLabelFaults, procedureLabelFaults, proceduresLabelFaults}
 use Rattle.definitions.specs.Labels.{imageLabelFaults}
-use Rattle.definitions.specs.Compiling.{secretBoolean, blockTemporaries, compiledBlock, defers, guards, returnVariable}
-use Rattle.definitions.specs.Compiling.{firstTemporary, firstMoved, closed, compiledTypes, compiledBody}
-use Rattle.definitions.specs.Compiling.{compiledProcedure, compiledProcedures, compiledImage, fitLocals}
-use Rattle.laws.specs.Tests.{false-true, and-left, and-right, nil-left, nil-right}
-use Rattle.laws.specs.Spelled.{On, on-split, on-end}
+use Rattle.definitions.specs.Compiling.{compiledBlock, defers, guards, returnVariable, firstPair, firstMoved, closed}
+use Rattle.definitions.specs.Compiling.{compiledTypes, temporaryOf, compiledBody, compiledProcedure, compiledProcedures}
+use Rattle.definitions.specs.Compiling.{compiledImage, fitLocals}
+use Rattle.laws.specs.CompiledLocals.{at-most-one}
+use Rattle.laws.specs.Tests.{and-left, and-right, nil-left, nil-right}
 use Rattle.statements.specs.Limits.{FitsBlock, FitsProcedure, FitsProcedures, no-procedures, more-procedures, arityOf}
 use Rattle.statements.specs.Limits.{FitsImage}
 use Rattle.laws.specs.ReadImages.{procedure-fits}
@@ -25,10 +24,10 @@ use Rattle.readback.specs.Good.{GoodBlock}
 use Rattle.readback.specs.Marks.{mark-closed, mark-block, marked-start}
 use Rattle.readback.specs.Levels.{DeepBlock, deep-block, deep-compiled, deep-closed, good-deep-block}
 use Rattle.readback.specs.Layout.{compiled-room, compiled-below, compiled-typed, compiled-local, guard-room}
-use Rattle.readback.specs.Layout.{guard-fresh, guard-type, extra-stands, compiled-callee, compiled-at}
-use Rattle.readback.specs.Layout.{compiled-count, all-compiled}
-use Rattle.readback.specs.Setting.{Callee, Setting, Deferred}
-use Rattle.readback.specs.Survive.{block-survives, deferred-stands, body-closed}
+use Rattle.readback.specs.Layout.{guard-fresh, guard-type, deferred-added, pairs-added, temporary-added}
+use Rattle.readback.specs.Layout.{compiled-callee, compiled-at, compiled-count, all-compiled}
+use Rattle.readback.specs.Setting.{Callee, Setting}
+use Rattle.readback.specs.Survive.{block-survives, body-closed}
 
 -- a procedure of an image in form 1 whose body is good
 abbrev pub GoodProcedure : List Procedure → List ℕ → ℕ → Procedure → Type 0
@@ -48,8 +47,10 @@ module _ (form : ℕ) (ps ps′ : List Procedure) (arrays : List ℕ) (me : ℕ)
   named : p .parameters ≤ length (p .types)
   named = fit .parameters-typed
 
-  abbrev inner : Bool → Block
-  inner d = compiledBlock ps arrays (p .types) (firstMoved p) (returnVariable p) (p .body) (guarded p) (p .parameters) false (returnVariable p + pick d 2 0)
+  abbrev inner : Block
+  inner =
+      compiledBlock ps arrays (p .types) (firstMoved p) (returnVariable p) (temporaryOf ps arrays p) (p .body) (guarded p) (p .parameters) false
+      (firstPair arrays p)
 
   abbrev start : List ℕ
   start = replicate 256 ordinary
@@ -69,6 +70,7 @@ module _ (form : ℕ) (ps ps′ : List Procedure) (arrays : List ℕ) (me : ℕ)
         result = p .result;
         first = firstMoved p;
         rv = returnVariable p;
+        temporary = temporaryOf ps arrays p;
         typed = compiled-typed ps arrays p named;
         below = compiled-below ps arrays p named;
         room = compiled-room ps arrays p named;
@@ -77,40 +79,22 @@ module _ (form : ℕ) (ps ps′ : List Procedure) (arrays : List ℕ) (me : ℕ)
         callee = callee;
       }
 
-  -- the body, where RV and LIVE are there if they are needed
-  body-good :
-      (d : Bool) → defers arrays p ≡ d → (d ≡ true → Deferred setting)
-      → (end : ℕ) → On (compiledTypes ps arrays p) (returnVariable p + pick d 2 0) (blockTemporaries ps arrays (p .types) (guarded p) false (p .body)) end
-      → procedureSortFaults ps (length arrays) p ≡ [] → blockLabelFaults form ps arrays (p .types) (p .result) (replicate 256 unbounded) (guarded p) false (p .body) ≡ []
-      → GoodBlock ps′ me (p .parameters + guards p) (compiledTypes ps arrays p) (p .result) arrays (markBlock (closed d (returnVariable p) (inner d)) start) (closed d (returnVariable p) (inner d))
-  unfolding procedureSortFaults
-  body-good d e kept end on sorts labels =
-      let marks = markBlock (p .body) start in
-      let marks′ = markBlock (inner d) start in
-      let marked = mark-block ps arrays (p .types) (p .parameters) (p .result) (firstMoved p) (returnVariable p) (length arrays) (few-variables fit) (p .body) marks start start sorts
-      (guarded p) (p .parameters) false (returnVariable p + pick d 2 0) (marked-start (firstMoved p) (length (p .types))) in
-      rw (mark-closed d (returnVariable p) (inner d) start)
-      (body-closed setting d marks marks′ marked (inner d) kept
-      (block-survives setting (fit .body-fits) (guarded p) (p .parameters) false (returnVariable p + pick d 2 0) end marks marks′ (replicate 256 unbounded) marked
-      (λ g. (guard-room ps arrays p named g, guard-fresh ps arrays p named g, guard-type ps arrays p named g)) (λ r. kept (sym e ∙ r)) (omega arith) on sorts labels))
-
   pub procedure-good :
       procedureSortFaults ps (length arrays) p ≡ [] → blockLabelFaults form ps arrays (p .types) (p .result) (replicate 256 unbounded) (guarded p) false (p .body) ≡ []
       → GoodProcedure ps′ arrays me (compiledProcedure ps arrays p)
-  unfolding compiledProcedure compiledBody
-  procedure-good sorts labels = go (defers arrays p) refl (extra-stands ps arrays p named)
-    where
-      go : (d : Bool) → defers arrays p ≡ d
-          → On (compiledTypes ps arrays p) (returnVariable p) (pick d (p .result ∷ secretBoolean ∷ []) [] ++ blockTemporaries ps arrays (p .types) (guarded p) false (p .body)) (length (compiledTypes ps arrays p))
-          → GoodBlock ps′ me (p .parameters + guards p) (compiledTypes ps arrays p) (p .result) arrays (markBlock (closed d (returnVariable p) (inner d)) start) (closed d (returnVariable p) (inner d))
-      go true e on =
-          let (mid, on₁, on₂) = on-split (p .result ∷ secretBoolean ∷ []) (blockTemporaries ps arrays (p .types) (guarded p) false (p .body)) on in
-          let there : On (compiledTypes ps arrays p) (returnVariable p + 2) (blockTemporaries ps arrays (p .types) (guarded p) false (p .body))
-          (length (compiledTypes ps arrays p)) = rw (on-end on₁) on₂ in
-          body-good true e
-          (λ _. deferred-stands setting on)
-          (length (compiledTypes ps arrays p)) there sorts labels
-      go false e on = body-good false e (λ h. absurd (false-true h)) (length (compiledTypes ps arrays p)) (rw (add-zero (returnVariable p)) on) sorts labels
+  unfolding compiledProcedure compiledBody procedureSortFaults
+  procedure-good sorts labels =
+      let marks = markBlock (p .body) start in
+      let marks′ = markBlock inner start in
+      let deferred = deferred-added ps arrays p named in
+      let marked = mark-block ps arrays (p .types) (p .parameters) (p .result) (firstMoved p) (returnVariable p) (temporaryOf ps arrays p)
+      (length arrays) (few-variables fit) (p .body) marks start start sorts (guarded p) (p .parameters) false (firstPair arrays p)
+      (marked-start (firstMoved p) (length (p .types))) in
+      rw (mark-closed (defers arrays p) (returnVariable p) inner start)
+      (body-closed setting (defers arrays p) marks marks′ marked inner deferred
+      (block-survives setting (fit .body-fits) (guarded p) (p .parameters) false (firstPair arrays p) marks marks′ (replicate 256 unbounded) marked
+      (λ g. (guard-room ps arrays p named g, guard-fresh ps arrays p named g, guard-type ps arrays p named g)) deferred (pairs-added ps arrays p named)
+      (temporary-added ps arrays p named) sorts labels))
 
 open-mode : (ps : List Procedure) (arrays : List ℕ) (p : Procedure) → _≡_ {A = ℕ} (compiledProcedure ps arrays p .mode) 0
 unfolding compiledProcedure
@@ -135,13 +119,6 @@ module _ (image : Image) (ps′ : List Procedure) where
       (procedures-good fits (λ f h. callee f (omega arith)) (nil-right fs gs s) (nil-right ls ks l))
 
 -- A compiled procedure fits form 1.
-few-guards : (p : Procedure) → guards p ≤ 1
-few-guards p = go (guarded p)
-  where
-    go : (g : Bool) → pick g 1 0 ≤ 1
-    go true = omega arith
-    go false = omega arith
-
 close-block : (d : Bool) (rv : ℕ) {l : ℕ} {b : Block} → DeepBlock (suc (suc (suc l))) b → DeepBlock (suc (suc (suc l))) (closed d rv b)
 close-block d rv (deep-block x) = deep-block (deep-closed d rv x)
 
@@ -151,7 +128,8 @@ pub levels-suffice : (ps : List Procedure) (arrays : List ℕ) (me : ℕ) (p : P
 unfolding compiledBody
 levels-suffice ps arrays me p fit =
     close-block (defers arrays p) (returnVariable p)
-    (deep-compiled ps arrays (p .types) (firstMoved p) (returnVariable p) (arityOf ps) me fit (guarded p) (p .parameters) false (firstTemporary arrays p))
+    (deep-compiled ps arrays (p .types) (firstMoved p) (returnVariable p) (temporaryOf ps arrays p) (arityOf ps) me fit (guarded p)
+    (p .parameters) false (firstPair arrays p))
 
 procedure-compiled-fits :
     (ps ps′ : List Procedure) (arrays : List ℕ) (me : ℕ) (p : Procedure) → FitsProcedure 0 (arityOf ps) me p → GoodProcedure ps′ arrays me (compiledProcedure ps arrays p)
@@ -161,7 +139,7 @@ unfolding compiledProcedure compiledBody
 procedure-compiled-fits ps ps′ arrays me p fit good locals low few =
     let h₀ = fit .few-parameters in
     let h₁ = fit .parameters-typed in
-    let g = few-guards p in
+    let g = at-most-one (guarded p) in
     let r = compiled-room ps arrays p (fit .parameters-typed) in
     let l = leb-true (length (compiledTypes ps arrays p) - (p .parameters + guards p)) 246 locals in
     record {

@@ -32,7 +32,7 @@ module _ (here : Setting) where
 
   pub assign-good : {l : ℕ} (x : ℕ) (e : Expression) → FitsExpression l e → StatementGood here (assign x e)
   unfolding statementSortFaults statementLabelFaults compiledStatement sortIn
-  assign-good x e fit pc arm rc k end marks marks′ bounds p m a d le on s l =
+  assign-good x e fit pc arm rc k marks marks′ bounds p m a d pairs temporaries s l =
       let f₆ = faultIf (leb (length types) x) 6 p in
       let f₈ = faultIf (not (eqb (getD marks x 0) ordinary)) 8 p in
       let fo = operandFaults types (length arrays) marks (sortOf types x) e in
@@ -61,7 +61,7 @@ module _ (here : Setting) where
 
   pub store-good : {l l′ : ℕ} (y : ℕ) (i e : Expression) → FitsExpression l i → FitsExpression l′ e → StatementGood here (store y i e)
   unfolding statementSortFaults statementLabelFaults compiledStatement sortIn
-  store-good y i e fit fit′ pc arm rc k end marks marks′ bounds p m a d le on s l =
+  store-good y i e fit fit′ pc arm rc k marks marks′ bounds p m a d pairs temporaries s l =
       let f₆ = faultIf (leb (length arrays) y) 6 p in
       let fi = operandFaults types (length arrays) marks wordSort i in
       let fe = operandFaults types (length arrays) marks wordSort e in
@@ -113,7 +113,7 @@ module _ (here : Setting) where
 
   pub return-good : {l : ℕ} (e : Expression) → FitsExpression l e → StatementGood here (return e)
   unfolding statementSortFaults statementLabelFaults compiledStatement rcAfter
-  return-good e fit pc arm rc k end marks marks′ bounds p m a d le on s l =
+  return-good e fit pc arm rc k marks marks′ bounds p m a d pairs temporaries s l =
       let f₉ = faultIf ((secretIn types arrays e || (pc || rc)) && not (typeSecret result)) 9 p in
       let lₑ = labelFaults types arrays bounds (pc || rc) e in
       let z = operand-good here marks marks′ m fit bounds (pc || rc) (typeSort result) (type-known result) s (nil-right f₉ lₑ l) in

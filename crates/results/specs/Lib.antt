@@ -12,6 +12,8 @@ pub mod MoreWords
 pub mod ByOperators
 pub mod ByIndexRule
 pub mod IndicesAdded
+pub mod Renumbered
+pub mod StillCompiles
 pub mod TwoRuns
 pub mod TwoCalls
 pub mod StoppedExactly

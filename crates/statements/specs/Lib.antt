@@ -2,5 +2,6 @@ pub mod FormerAnswers
 pub mod FormerLimits
 pub mod FormerTraces
 pub mod FormerIndices
+pub mod FormerNumbering
 pub mod Limits
 pub mod Statements

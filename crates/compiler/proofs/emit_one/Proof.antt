@@ -1,5 +1,5 @@
 -- `compiler::emit_one` meets its contract. Assumes nothing.
-use Rattle.compiler.proofs.Rules.{types-before, types-within, types-are, one-on}
+use Rattle.compiler.proofs.Rules.{types-before, types-within, types-are}
 use borrow.Author.Needs.{needs}
 use Rattle.compiler.proofs.emit_one.Statement.{statement}
 use Rattle.compiler.proofs.emit_one.Tie as tie
@@ -18,10 +18,9 @@ emit-one-spec = let answers = tie.spec
     (λ c κs. let pre· = c .before .before .before .before .before .before .pre in (
       pre· .0,
       pre· .1,
-      types-are _ _ _ (pre· .0) _ (c
-          .before .before .before .place .ensures .0) _ (c .before .before .body .ensures .0),
+      types-are _ _ _ (pre· .0) _
+          (c .before .before .before .place .ensures .0) _ (c .before .before .body .ensures .0),
     ))
-    (λ c κs. search needs) (λ c. search needs)  -- most-locals-requires, same-length
-    -- returns
-    (λ c. one-on _ _ _ _ _ _ _ (c .before .most-locals .ensures) (c .before .before .before .before .emit-procedure .ensures))
+    (λ c. search needs)  -- same-length
+    (λ c. search needs)  -- returns
     in tie.close answers

@@ -1,5 +1,5 @@
 -- The functions of `emission` that call each other meet their contracts. Assumes nothing.
-use Prim.Native.Nat.{_*_, _+_, _-_, _≤_, _<_, ℕ}
+use Prim.Native.Nat.{_*_, _+_, _-_, _≤_, ℕ, _<_}
 use native.Mathlib.Omega.{arith}
 use mathlib.Core.Bool.{true}
 use mathlib.Core.Path.{_≡_, refl, _∙_}
@@ -10,13 +10,12 @@ use Rattle.definitions.specs.Reading.{readBlock}
 use Rattle.image_words.specs.Read.{statementsAt}
 use Rattle.image_words.specs.Parts.{told, not-told}
 use Rattle.image_words.specs.StatementParts.{read-if, read-bounds}
+use Rattle.image_words.specs.Rest.{block-ready, next-statement}
 use Rattle.tables.specs.Table.{arraysIn, paramsIn}
 use Rattle.emission.specs.Emitted.{emittedBlock}
-use Rattle.emission.proofs.Branches.{body-on, label-is, secret-then, secret-else, secret-if-on, public-then}
-use Rattle.emission.proofs.Branches.{public-else, public-if-on, body-read, for-on}
-use Rattle.image_words.specs.Rest.{block-ready, next-statement}
-use Rattle.emission.proofs.Blocks.{block-begin, block-done, block-again, block-more}
-use Rattle.emission.proofs.Blocks.{place-apart}
+use Rattle.emission.proofs.Branches.{ready-on, ready-arm, body-on, label-is, secret-then, secret-else}
+use Rattle.emission.proofs.Branches.{secret-if-on, public-then, public-else, public-if-on, body-read, for-on}
+use Rattle.emission.proofs.Blocks.{block-begin, block-done, block-again, block-more, place-apart}
 use borrow.Author.Needs.{needs}
 use borrow.Fn.Kinds.{In}
 use borrow.Fn.PlainCycle.{Measures, is, falls, and}
@@ -104,36 +103,29 @@ abbrev emit-if-below : ℕ → In 4 emit-if-kinds.ps
 emit-if-below t = and 4 emit-if-kinds.ps (falls 4 emit-if-kinds.ps _<_ μ-emit-if t) emit-if.Pre
 
 abbrev emit-public-if-at : ℕ → In 4 emit-public-if-kinds.ps
-emit-public-if-at t =
-    and 4 emit-public-if-kinds.ps (is 4 emit-public-if-kinds.ps μ-emit-public-if t) emit-public-if.Pre
+emit-public-if-at t = and 4 emit-public-if-kinds.ps (is 4 emit-public-if-kinds.ps μ-emit-public-if t) emit-public-if.Pre
 
 abbrev emit-public-if-below : ℕ → In 4 emit-public-if-kinds.ps
-emit-public-if-below t =
-    and 4 emit-public-if-kinds.ps (falls 4 emit-public-if-kinds.ps _<_ μ-emit-public-if t) emit-public-if.Pre
+emit-public-if-below t = and 4 emit-public-if-kinds.ps (falls 4 emit-public-if-kinds.ps _<_ μ-emit-public-if t) emit-public-if.Pre
 
 abbrev emit-secret-if-at : ℕ → In 4 emit-secret-if-kinds.ps
-emit-secret-if-at t =
-    and 4 emit-secret-if-kinds.ps (is 4 emit-secret-if-kinds.ps μ-emit-secret-if t) emit-secret-if.Pre
+emit-secret-if-at t = and 4 emit-secret-if-kinds.ps (is 4 emit-secret-if-kinds.ps μ-emit-secret-if t) emit-secret-if.Pre
 
 abbrev emit-secret-if-below : ℕ → In 4 emit-secret-if-kinds.ps
-emit-secret-if-below t =
-    and 4 emit-secret-if-kinds.ps (falls 4 emit-secret-if-kinds.ps _<_ μ-emit-secret-if t) emit-secret-if.Pre
+emit-secret-if-below t = and 4 emit-secret-if-kinds.ps (falls 4 emit-secret-if-kinds.ps _<_ μ-emit-secret-if t) emit-secret-if.Pre
 
 abbrev emit-statement-at : ℕ → In 4 emit-statement-kinds.ps
-emit-statement-at t =
-    and 4 emit-statement-kinds.ps (is 4 emit-statement-kinds.ps μ-emit-statement t) emit-statement.Pre
+emit-statement-at t = and 4 emit-statement-kinds.ps (is 4 emit-statement-kinds.ps μ-emit-statement t) emit-statement.Pre
 
 abbrev emit-statement-below : ℕ → In 4 emit-statement-kinds.ps
-emit-statement-below t =
-    and 4 emit-statement-kinds.ps (falls 4 emit-statement-kinds.ps _<_ μ-emit-statement t) emit-statement.Pre
+emit-statement-below t = and 4 emit-statement-kinds.ps (falls 4 emit-statement-kinds.ps _<_ μ-emit-statement t) emit-statement.Pre
 
 abbrev emit-block-Inv-loop : emit-block-lts.InvT-loop
-emit-block-Inv-loop image table types out₀ scope level at count j₀ c₀ out j c =
-    (j ≤ count) × (length out ≡ length out₀) × (at < c .at) × (c .at ≤ length image) × (c .n + 2 * at ≤ c₀ .n + 2 * c .at) × (c .k +
-    2 * at ≤ c₀ .k + 2 * c .at) × (ok (statementsAt (count - j) (level - 1) (paramsIn table) (scope .me) image (c .at)) ≡ true) ×
-    (emittedBlock (proceduresIn image) (arraysIn table) types scope c out (statementsAt (count - j) (level - 1) (paramsIn table)
-    (scope .me) image (c .at)) ≡ emittedBlock (proceduresIn image) (arraysIn table) types scope c₀ out₀ (readBlock level (paramsIn
-    table) (scope .me) image at))
+emit-block-Inv-loop image table types out₀ scope level at count j₀ c₀ out j c = (j ≤ count) × (length out ≡ length out₀) × (at < c
+    .at) × (c .at ≤ length image) × (c .n + 2 * at ≤ c₀ .n + 2 * c .at) × (ok (statementsAt (count - j) (level - 1) (paramsIn
+    table) (scope .me) image (c .at)) ≡ true) × (emittedBlock (proceduresIn image) (arraysIn table) types scope c out
+    (statementsAt (count - j) (level - 1) (paramsIn table) (scope .me) image (c .at)) ≡ emittedBlock (proceduresIn image)
+    (arraysIn table) types scope c₀ out₀ (readBlock level (paramsIn table) (scope .me) image at))
 
 abbrev emit-block-μ-loop : emit-block-lts.MeasureT-loop
 emit-block-μ-loop image table types out₀ scope level at count j₀ c₀ out j c = count - j
@@ -205,71 +197,56 @@ emit-statement-callees t = (
 )
 
 emit-block-answers : {M : Type 1} (t : ℕ) → emit-block-lts.Closed (emit-block-callees t) (emit-block-at t) emit-block.Post M
-emit-block-answers t = emit-block-lts.spec (emit-block-callees t) (emit-block-at t) emit-block.Post emit-block-Inv-loop emit-block-μ-loop
+emit-block-answers t = emit-block-lts.spec (emit-block-callees t) (emit-block-at t) emit-block.Post emit-block-Inv-loop
+    emit-block-μ-loop
     (λ c. search needs) (λ c. search needs) (λ c κs. search needs)  -- mul-payload, shared-slice-read-payload, payload-requires
     (λ c. search needs)  -- add-t12
     -- loop-holds
-    (λ c. (
+    (λ c. let pre· = c .before .before .before .before .before .pre .1 in (
       search needs,
       search needs,
       search needs,
       search needs,
       search needs,
-      search needs,
-      block-ready _ _ _ _ _ (c .before
-          .before .before .before .before .pre .1 .0 .read) _ (c .payload .ensures .0),
+      block-ready _ _ _ _ _ (pre· .0 .read) _ (c .payload .ensures .0),
       block-begin _ _ _ (c .before .before .before
-          .before .before .args .scope) _ _ _ _ _ _ _ (c .before .before .before .before .before .pre .1 .0 .read) (c .payload
-          .ensures .0),
+          .before .before .args .scope) _ _ _ _ _ _ _ (pre· .0 .read) (c .payload .ensures .0),
     ))
     (λ c. search needs)  -- sub-emit-statement
     -- emit-statement-requires
-    (λ c κs. (
+    (λ c κs. let args· = c .before .before .before .before .before .before .before .before .args in (
       search needs,
       (
-        next-statement _ _ _ _ _ _ _ (c .before .before .loop .inv .6) (c .before .loop-test .taken),
-        record {
-          listed = c .before .before .before .before .before .before .before .before .pre .1 .1 .listed;
-          short = c .before .before
-              .before .before .before .before .before .before .pre .1 .1 .short;
-          few-statements = search needs;
-          few-temporaries = search
-              needs;
-          low-arm = c .before .before .before .before .before .before .before .before .pre .1 .1 .low-arm;
-          low-rv = c .before
-              .before .before .before .before .before .before .before .pre .1 .1 .low-rv;
-        },
+        next-statement
+            _ _ _ _ _ _ _ (c .before .before .loop .inv .5) (c .before .loop-test .taken),
+        ready-on _ _ (args· .scope) (args· .cursor) _
+            (c .before .before .before .before .before .before .before .before .pre .1 .1) (search needs) (search needs),
       ),
     ))
     (λ c. search needs) (λ c. search needs)  -- add-j, loop-less
     -- loop-again
-    (λ c. (
+    (λ c. let args· = c .before .before .before .before .before .before .before .before .before .before .before .args in let loop·
+    = c .before .before .before .before .before .loop in (
       search needs,
       search needs,
       search needs,
       search needs,
       search needs,
-      search needs,
-      block-again _ _ _ (c .before .before
-          .before .before .before .before .before .before .before .before .before .args .scope) _ _ _ _ _ (c .before .before .before
-          .before .before .loop .c) _ _ _ (c .before .before .before .before .before .loop .inv .6) (c .before .before .before .before
-          .loop-test .taken) (c .before .before .emit-statement .ensures .0),
-      block-more _ _ _ (c .before .before .before .before
-          .before .before .before .before .before .before .before .args .scope) _ _ _ _ _ (c .before .before .before .before .before
-          .loop .c) _ _ (c .before .before .before .before .before .loop .inv .7) _ _ (c .before .before .before .before .before .loop
-          .inv .6) (c .before .before .before .before .loop-test .taken) (c .before .before .emit-statement .ensures .0),
+      block-again _ _ _ (args· .scope) _ _ _ _ _ (loop· .c) _ _ _ (loop· .inv .5) (c .before .before .before .before .loop-test
+          .taken) (c .before .before .emit-statement .ensures .0),
+      block-more _ _ _ (args· .scope) _ _ _ _ _ (loop· .c) _ _ (loop· .inv
+          .6) _ _ (loop· .inv .5) (c .before .before .before .before .loop-test .taken) (c .before .before .emit-statement .ensures
+          .0),
     ))
     (λ c. search needs)  -- same-length
     -- returns
-    (λ c. (
-      block-done _ _ _ (c .before .before .before .before .before .before .before .args .scope) _ _ _ _ _ _ _ _ (c .before
-          .loop .inv .7) (c .loop-test .left) ∙ place-apart _ _ _ (c .before .before .before .before .before .before .before .args
-          .scope) (c .before .before .before .before .before .before .before .args .cursor) _ _ _,
+    (λ c. let args· = c .before .before .before .before .before .before .before .args in (
+      block-done _ _ _ (args· .scope) _ _ _ _
+          _ _ _ _ (c .before .loop .inv .6) (c .loop-test .left) ∙ place-apart _ _ _ (args· .scope) (args· .cursor) _ _ _,
       record {
         onward = search needs;
         within = search needs;
         statements = search needs;
-        taken = search needs;
       },
     ))
 
@@ -277,23 +254,13 @@ emit-body-answers : {M : Type 1} (t : ℕ) → emit-body-lts.Closed (emit-body-c
 emit-body-answers t = emit-body-lts.spec (emit-body-callees t) (emit-body-at t) emit-body.Post
     (λ c κs. search needs)  -- put-requires
     -- emit-block-requires
-    (λ c κs. (
+    (λ c κs. let pre· = c .before .before .before .before .before .before .before .before .pre .1 in let args· = c .before .before
+    .before .before .before .before .before .before .args in (
       search needs,
       (
-        c .before .before .before .before .before .before .before .before .pre .1 .0,
-        record {
-          listed = c
-              .before .before .before .before .before .before .before .before .pre .1 .1 .listed;
-          short = c .before .before .before
-              .before .before .before .before .before .pre .1 .1 .short;
-          few-statements = search needs;
-          few-temporaries = c .before
-              .before .before .before .before .before .before .before .pre .1 .1 .few-temporaries;
-          low-arm = c .before .before .before
-              .before .before .before .before .before .pre .1 .1 .low-arm;
-          low-rv = c .before .before .before .before .before .before
-              .before .before .pre .1 .1 .low-rv;
-        },
+        pre· .0,
+        ready-on _ _ (args· .scope) (args· .cursor)
+            _ (pre· .1) (search needs) (search needs),
       ),
     ))
     (λ c κs. search needs) (λ c κs. search needs) (λ c. search needs)  -- block-with-requires, patch-requires, same-length
@@ -306,13 +273,9 @@ emit-body-answers t = emit-body-lts.spec (emit-body-callees t) (emit-body-at t) 
           .block-with .ensures) (c .before .before .patch .ensures),
       record {
         onward = omega (arith, emit-block· .ensures .1);
-        within
-            = omega (arith, emit-block· .ensures .1);
+        within =
+            omega (arith, emit-block· .ensures .1);
         statements = omega (arith, emit-block· .ensures .1);
-        taken = omega (
-          arith,
-          emit-block· .ensures .1,
-        );
       },
     ))
 
@@ -321,10 +284,10 @@ emit-for-answers t = emit-for-lts.spec (emit-for-callees t) (emit-for-at t) emit
     (λ c. search needs) (λ c. search needs) (λ c κs. search needs)  -- mul-target, shared-slice-read-target, target-requires
     (λ c κs. search needs) (λ c. search needs) (λ c. search needs)  -- renumber-requires, add-emit-for-head, sub-emit-for-head
     -- emit-for-head-requires
-    (λ c κs. (
+    (λ c κs. let pre· = c .before .before .before .before .before .before .before .pre .1 in (
       search needs,
-      read-bounds _ _ _ _ _ (c .before .before .before .before .before .before .before .pre .1 .0 .read) _
-          refl (c .before .before .before .before .before .before .before .pre .1 .2),
+      read-bounds _ _ _ _ _
+          (pre· .0 .read) _ refl (pre· .2),
     ))
     (λ c. search needs)  -- sub-rc-block
     -- rc-block-requires
@@ -333,26 +296,18 @@ emit-for-answers t = emit-for-lts.spec (emit-for-callees t) (emit-for-at t) emit
     .cursor) _ _ _ _ (pre· .0 .read) _ _ _ (pre· .2) (c .before .before .emit-for-head .ensures .0))
     (λ c. search needs)  -- sub-emit-body
     -- emit-body-requires
-    (λ c κs. let args· = c .before .before .before .before .before .before .before .before .before .before .before .before .args in
-    let pre· = c .before .before .before .before .before .before .before .before .before .before .before .before .pre .1 in let
-    emit-for-head· = c .before .before .before .before .emit-for-head in (
-      omega (
-        arith,
-        c .before .before .before .before
-            .before .before .before .before .before .before .before .before .pre,
-      ),
+    (λ c κs. let pre· = c .before .before .before .before .before .before .before .before .before .before .before .before .pre in
+    let args· = c .before .before .before .before .before .before .before .before .before .before .before .before .args in (
+      omega
+          (arith, pre·),
       (
-        body-read (args· .scope) (args· .cursor) _ _ _ _
-            (pre· .0 .read) _ _ _ (pre· .2) (emit-for-head· .ensures .0),
-        record {
-          listed = pre· .1 .listed;
-          short = pre· .1 .short;
-          few-statements = omega arith;
-          few-temporaries = omega (arith, pre· .1, emit-for-head· .ensures .1);
-          low-arm = pre· .1
-              .low-arm;
-          low-rv = pre· .1 .low-rv;
-        },
+        body-read (args· .scope) (args· .cursor) _ _ _ _ (pre· .1 .0 .read) _ _ _ (pre· .1 .2) (c .before .before
+            .before .before .emit-for-head .ensures .0),
+        ready-on _ _ (args· .scope) (args· .cursor) _ (pre· .1 .1) (omega (
+          arith,
+          c
+              .before .before .before .before .emit-for-head .ensures .1,
+        )) (omega arith),
       ),
     ))
     -- add-t19
@@ -364,29 +319,24 @@ emit-for-answers t = emit-for-lts.spec (emit-for-callees t) (emit-for-at t) emit
     (λ c. search needs)  -- same-length
     -- returns
     (λ c. let args· = c .before .before .before .before .before .before .before .before .before .before .before .before .before
-    .before .before .before .args in let pre· = c .before .before .before .before .before .before .before .before .before
-    .before .before .before .before .before .before .before .pre .1 in let emit-for-head· = c .before .before .before .before
-    .before .before .before .before .emit-for-head in let emit-body· = c .before .before .before .emit-body in (
-      for-on _ _ _
-          (args· .scope) (args· .cursor) _ _ _ _ (pre· .0 .read) (pre· .2) _ _ _ (emit-for-head· .ensures .0) _ _ _ _ (c .before
-          .before .before .before .before .before .before .before .before .before .before .target .ensures .0) (c .before .before
-          .before .before .before .before .before .before .before .before .renumber .ensures .0) (c .before .before .before .before
-          .before .rc-block .ensures) (emit-body· .ensures .0),
+    .before .before .before .args in let pre· = c .before .before .before .before .before .before .before .before .before .before
+    .before .before .before .before .before .before .pre .1 in let emit-for-head· = c .before .before .before .before .before
+    .before .before .before .emit-for-head in (
+      for-on _ _ _ (args· .scope) (args· .cursor) _ _ _ _ (pre· .0 .read) (pre· .2) _ _ _
+          (emit-for-head· .ensures .0) _ _ _ _ (c .before .before .before .before .before .before .before .before .before .before
+          .before .target .ensures .0) (c .before .before .before .before .before .before .before .before .before .before .renumber
+          .ensures .0) (c .before .before .before .before .before .rc-block .ensures) (c .before .before .before .emit-body .ensures
+          .0),
       record {
-        onward = omega (
-          arith,
-          emit-body· .ensures .1,
-          emit-for-head·
-              .ensures,
-        );
-        within = omega (arith, emit-body· .ensures .1, emit-for-head· .ensures);
+        onward = omega (arith, c .before .before .before .emit-body .ensures .1, emit-for-head· .ensures);
+        within =
+            omega (arith, c .before .before .before .emit-body .ensures .1, emit-for-head· .ensures);
         statements = omega (
           arith,
-          emit-body·
-              .ensures .1,
+          c .before
+              .before .before .emit-body .ensures .1,
           emit-for-head· .ensures,
         );
-        taken = omega (arith, emit-body· .ensures .1, emit-for-head· .ensures);
       },
     ))
 
@@ -396,62 +346,44 @@ emit-if-answers t = emit-if-lts.spec (emit-if-callees t) (emit-if-at t) emit-if.
     -- secret-expression-requires
     (λ c κs. let pre· = c .before .before .before .before .pre .1 in read-if _ _ _ _ _ (pre· .0 .read) _ refl (pre· .2))
     -- emit-secret-if-requires
-    (λ c κs. (
+    (λ c κs. let pre· = c .before .before .before .before .before .before .before .pre .1 in (
       search needs,
       (
-        c .before .before .before .before .before .before .before .pre .1 .0,
-        c .before .before .before .before
-            .before .before .before .pre .1 .1,
-        c .before .before .before .before .before .before .before .pre .1 .2,
-        label-is _ _ _ _ _
-            (c .before .before .secret-expression .ensures) (c .before .if1 .taken),
+        pre· .0,
+        pre· .1,
+        pre· .2,
+        label-is _ _ _ _ _ (c .before .before .secret-expression .ensures) (c .before .if1 .taken),
       ),
     ))
     (λ c. search needs) (λ c. search needs)  -- same-length, returns
     -- emit-public-if-requires
-    (λ c κs. (
+    (λ c κs. let pre· = c .before .before .before .before .before .before .before .pre .1 in (
       search needs,
       (
-        c .before .before .before .before .before .before .before .pre .1 .0,
-        c .before .before .before .before
-            .before .before .before .pre .1 .1,
-        c .before .before .before .before .before .before .before .pre .1 .2,
-        label-is _ _ _ _ _
-            (c .before .before .secret-expression .ensures) (c .before .if1 .left),
+        pre· .0,
+        pre· .1,
+        pre· .2,
+        label-is _ _ _ _ _ (c .before .before .secret-expression .ensures) (c .before .if1 .left),
       ),
     ))
     (λ c. search needs) (λ c. search needs)  -- same-length-2, returns-2
 
-emit-public-if-answers : {M : Type 1} (t : ℕ) → emit-public-if-lts.Closed (emit-public-if-callees t) (emit-public-if-at t) emit-public-if.Post M
+emit-public-if-answers : {M : Type 1} (t : ℕ) → emit-public-if-lts.Closed (emit-public-if-callees t) (emit-public-if-at t)
+    emit-public-if.Post M
 emit-public-if-answers t = emit-public-if-lts.spec (emit-public-if-callees t) (emit-public-if-at t) emit-public-if.Post
     (λ c. search needs) (λ c. search needs)  -- add-emit-if-head, sub-emit-if-head
     -- emit-if-head-requires
     (λ c κs. let pre· = c .before .before .before .before .before .pre .1 in read-if _ _ _ _ _ (pre· .0 .read) _ refl (pre· .2))
     (λ c. search needs)  -- sub-emit-body
     -- emit-body-requires
-    (λ c κs. (
+    (λ c κs. let args· = c .before .before .before .before .before .before .before .before .before .args in let pre· = c .before
+    .before .before .before .before .before .before .before .before .pre .1 in (
       search needs,
       (
-        public-then (c .before .before .before .before .before .before .before .before .before .args .scope) (c
-            .before .before .before .before .before .before .before .before .before .args .cursor) _ _ _ _ (c .before .before .before
-            .before .before .before .before .before .before .pre .1 .0 .read) _ _ (c .before .before .before .before .before .before
-            .before .before .before .pre .1 .2) (c .before .before .before .emit-if-head .ensures .0),
-        record {
-          listed = c .before
-              .before .before .before .before .before .before .before .before .pre .1 .1 .listed;
-          short = c .before .before .before
-              .before .before .before .before .before .before .pre .1 .1 .short;
-          few-statements = omega arith;
-          few-temporaries = omega (
-            arith,
-            c .before .before .before .before .before .before .before .before .before .pre .1 .1,
-            c .before .before .before
-                .emit-if-head .ensures .1,
-          );
-          low-arm = c .before .before .before .before .before .before .before .before .before .pre .1 .1
-              .low-arm;
-          low-rv = c .before .before .before .before .before .before .before .before .before .pre .1 .1 .low-rv;
-        },
+        public-then (args· .scope) (args·
+            .cursor) _ _ _ _ (pre· .0 .read) _ _ (pre· .2) (c .before .before .before .emit-if-head .ensures .0),
+        ready-on _ _ (args·
+            .scope) (args· .cursor) _ (pre· .1) (omega (arith, c .before .before .before .emit-if-head .ensures .1)) (omega arith),
       ),
     ))
     -- sub-emit-body-2
@@ -461,31 +393,20 @@ emit-public-if-answers t = emit-public-if-lts.spec (emit-public-if-callees t) (e
           .pre .1 .0,
     ))
     -- emit-body-requires-2
-    (λ c κs. let args· = c .before .before .before .before .before .before .before .before .before .before .before .before .before
-    .args in let pre· = c .before .before .before .before .before .before .before .before .before .before .before .before
-    .before .pre .1 in let emit-if-head· = c .before .before .before .before .before .before .before .emit-if-head in let
-    emit-body· = c .before .before .before .emit-body in (
-      omega (
-        arith,
-        c .before .before .before .before .before .before
-            .before .before .before .before .before .before .before .pre,
-      ),
+    (λ c κs. let pre· = c .before .before .before .before .before .before .before .before .before .before .before .before .before
+    .pre in let args· = c .before .before .before .before .before .before .before .before .before .before .before .before .before
+    .args in (
+      omega (arith, pre·),
       (
-        public-else _ _ _ (args· .scope) (args· .cursor) _ _ _ _
-            (pre· .0 .read) (pre· .2) _ _ (emit-if-head· .ensures .0) _ _ (emit-body· .ensures .0),
-        record {
-          listed = pre· .1 .listed;
-          short = pre· .1 .short;
-          few-statements = omega arith;
-          few-temporaries = omega (
-            arith,
-            pre· .1,
-            emit-body· .ensures .1,
-            emit-if-head· .ensures .1,
-          );
-          low-arm = pre· .1 .low-arm;
-          low-rv = pre· .1 .low-rv;
-        },
+        public-else _ _ _ (args· .scope) (args· .cursor) _ _ _ _ (pre· .1 .0 .read) (pre· .1 .2) _ _
+            (c .before .before .before .before .before .before .before .emit-if-head .ensures .0) _ _ (c .before .before .before
+            .emit-body .ensures .0),
+        ready-on _ _ (args· .scope) (args· .cursor) _ (pre· .1 .1) (omega (
+          arith,
+          c .before .before .before
+              .emit-body .ensures .1,
+          c .before .before .before .before .before .before .before .emit-if-head .ensures .1,
+        )) (omega arith),
       ),
     ))
     -- add-t16
@@ -497,38 +418,37 @@ emit-public-if-answers t = emit-public-if-lts.spec (emit-public-if-callees t) (e
     (λ c. search needs)  -- same-length
     -- returns
     (λ c. let args· = c .before .before .before .before .before .before .before .before .before .before .before .before .before
-    .before .before .before .before .before .before .args in let pre· = c .before .before .before .before .before .before
-    .before .before .before .before .before .before .before .before .before .before .before .before .before .pre .1 in let
-    emit-if-head· = c .before .before .before .before .before .before .before .before .before .before .before .before .before
-    .emit-if-head in let emit-body· = c .before .before .before .before .before .before .before .before .before .emit-body in
-    let emit-body2· = c .before .before .before .before .before .emit-body2 in (
-      public-if-on _ _ _ (args· .scope) (args·
-          .cursor) _ _ _ _ (pre· .0 .read) (pre· .2) _ _ (emit-if-head· .ensures .0) _ _ (emit-body· .ensures .0) _ _ (pre· .3)
-          (emit-body2· .ensures .0),
+    .before .before .before .before .before .before .args in let pre· = c .before .before .before .before .before .before .before
+    .before .before .before .before .before .before .before .before .before .before .before .before .pre .1 in let emit-if-head· =
+    c .before .before .before .before .before .before .before .before .before .before .before .before .before .emit-if-head in let
+    emit-body· = c .before .before .before .before .before .before .before .before .before .emit-body in let emit-body2· = c
+    .before .before .before .before .before .emit-body2 in (
+      public-if-on _ _ _ (args· .scope) (args· .cursor) _ _ _ _ (pre· .0
+          .read) (pre· .2) _ _ (emit-if-head· .ensures .0) _ _ (emit-body· .ensures .0) _ _ (pre· .3) (emit-body2· .ensures .0),
       record {
-        onward = omega (
+        onward = omega (arith, emit-body2· .ensures .1, emit-body· .ensures .1, emit-if-head· .ensures);
+        within = omega (
           arith,
           emit-body2· .ensures .1,
           emit-body· .ensures .1,
-          emit-if-head·
-              .ensures,
+          emit-if-head· .ensures,
         );
-        within = omega (arith, emit-body2· .ensures .1, emit-body· .ensures .1, emit-if-head· .ensures);
-        statements =
-            omega (arith, emit-body2· .ensures .1, emit-body· .ensures .1, emit-if-head· .ensures);
-        taken = omega (
+        statements = omega (
           arith,
-          emit-body2·
-              .ensures .1,
+          emit-body2· .ensures .1,
           emit-body· .ensures .1,
           emit-if-head· .ensures,
         );
       },
     ))
 
-emit-secret-if-answers : {M : Type 1} (t : ℕ) → emit-secret-if-lts.Closed (emit-secret-if-callees t) (emit-secret-if-at t) emit-secret-if.Post M
+emit-secret-if-answers : {M : Type 1} (t : ℕ) → emit-secret-if-lts.Closed (emit-secret-if-callees t) (emit-secret-if-at t)
+    emit-secret-if.Post M
 emit-secret-if-answers t = emit-secret-if-lts.spec (emit-secret-if-callees t) (emit-secret-if-at t) emit-secret-if.Post
-    (λ c κs. search needs) (λ c. search needs) (λ c. search needs)  -- act-at-requires, add-emit-condition, sub-emit-condition
+    (λ c. omega (arith, c .before .before .before .pre .1))  -- add-next
+    (λ c κs. search needs)  -- act-at-requires
+    (λ c. omega (arith, c .before .before .before .before .before .before .pre .1))  -- add-emit-condition
+    (λ c. search needs)  -- sub-emit-condition
     -- emit-condition-requires
     (λ c κs. let pre· = c .before .before .before .before .before .before .pre .1 in (
       c .before .before .act-at .ensures .1,
@@ -536,44 +456,23 @@ emit-secret-if-answers t = emit-secret-if-lts.spec (emit-secret-if-callees t) (e
           (arith, pre·),
       read-if _ _ _ _ _ (pre· .0 .read) _ refl (pre· .2),
     ))
-    (λ c. search needs) (λ c. search needs) (λ c. search needs)  -- add-emit-block, add-t21, sub-emit-block
+    -- add-emit-block
+    (λ c. omega (arith, c .before .before .before .before .before .before .before .before .before .before .pre .1))
+    (λ c. search needs)  -- sub-emit-block
     -- emit-block-requires
-    (λ c κs. (
+    (λ c κs. let args· = c .before .before .before .before .before .before .before .before .before .before .before .args in let
+    pre· = c .before .before .before .before .before .before .before .before .before .before .before .pre .1 in let
+    emit-condition· = c .before .before .before .before .emit-condition in (
       search needs,
       (
-        secret-then (c .before .before .before .before .before .before .before .before .before .before .before
-            .args .scope) (c .before .before .before .before .before .before .before .before .before .before .before .args .cursor) _ _
-            _ _ (c .before .before .before .before .before .before .before .before .before .before .before .pre .1 .0 .read) _ _ _ (c
-            .before .before .before .before .before .before .before .before .before .before .before .pre .1 .2) (c .before .before
-            .before .before .emit-condition .ensures .0),
-        record {
-          listed = c .before .before .before .before .before .before .before
-              .before .before .before .before .pre .1 .1 .listed;
-          short = c .before .before .before .before .before .before .before
-              .before .before .before .before .pre .1 .1 .short;
-          few-statements = omega (
-            arith,
-            c .before .before .before .before .before
-                .before .before .before .before .before .before .pre .1 .1,
-            c .before .before .before .before .emit-condition .ensures .1,
-          );
-          few-temporaries = omega (
-            arith,
-            c .before .before .before .before .before .before .before .before .before .before .before
-                .pre .1 .1,
-            c .before .before .before .before .emit-condition .ensures .1,
-          );
-          low-arm = omega (
-            arith,
-            c .before .before
-                .before .before .before .before .before .before .before .before .before .pre .1,
-          );
-          low-rv = c .before .before .before .before
-              .before .before .before .before .before .before .before .pre .1 .1 .low-rv;
-        },
+        secret-then (args· .scope) (args·
+            .cursor) _ _ _ _ (pre· .0 .read) _ _ _ (pre· .2) (emit-condition· .ensures .0),
+        ready-arm _ _ (args· .scope) (args· .cursor) _
+            _ (pre· .1) (omega arith) (omega (arith, emit-condition· .ensures .1)) (omega (arith, emit-condition· .ensures)) (omega
+            (arith, pre· .1, emit-condition· .ensures .1)),
       ),
     ))
-    -- add-t21-2
+    -- add-emit-block-2
     (λ c. omega (
       arith,
       c .before .before .before .before .before .before .before .before .before .before .before .before .before
@@ -586,51 +485,40 @@ emit-secret-if-answers t = emit-secret-if-lts.spec (emit-secret-if-callees t) (e
           .before .before .pre .1 .0,
     ))
     -- emit-block-requires-2
-    (λ c κs. let args· = c .before .before .before .before .before .before .before .before .before .before .before .before .before
-    .before .before .args in let pre· = c .before .before .before .before .before .before .before .before .before .before
-    .before .before .before .before .before .pre .1 in let emit-condition· = c .before .before .before .before .before .before
-    .before .before .emit-condition in let emit-block· = c .before .before .before .emit-block in (
-      omega (
-        arith,
-        c .before
-            .before .before .before .before .before .before .before .before .before .before .before .before .before .before .pre,
-      ),
+    (λ c κs. let pre· = c .before .before .before .before .before .before .before .before .before .before .before .before .before
+    .before .before .pre in let args· = c .before .before .before .before .before .before .before .before .before .before .before
+    .before .before .before .before .args in let emit-condition· = c .before .before .before .before .before .before .before
+    .before .emit-condition in (
+      omega (arith, pre·),
       (
-        secret-else _ _ _ (args· .scope) (args· .cursor) _ _ _ _ (pre· .0 .read) (pre· .2) _ _ _ (emit-condition· .ensures .0) _ _
-            (emit-block· .ensures .0),
-        record {
-          listed = pre· .1 .listed;
-          short = pre· .1 .short;
-          few-statements = omega (
-            arith,
-            pre·
-                .1,
-            emit-block· .ensures .1,
-            emit-condition· .ensures .1,
-          );
-          few-temporaries = omega (
-            arith,
-            pre· .1,
-            emit-block· .ensures .1,
-            emit-condition· .ensures .1,
-          );
-          low-arm = omega (arith, pre·);
-          low-rv = pre· .1 .low-rv;
-        },
+        secret-else _ _ _ (args· .scope) (args· .cursor) _ _ _ _ (pre· .1 .0 .read)
+            (pre· .1 .2) _ _ _ (emit-condition· .ensures .0) _ _ (c .before .before .before .emit-block .ensures .0),
+        ready-arm _ _ (args·
+            .scope) (args· .cursor) _ _ (pre· .1 .1) (omega arith) (omega (
+              arith,
+              c .before .before .before .emit-block .ensures .1,
+              emit-condition· .ensures .1,
+            )) (omega (arith, c .before .before .before .emit-block .ensures .1)) (omega (
+              arith,
+              pre· .1 .1,
+              c
+                  .before .before .before .emit-block .ensures .1,
+              emit-condition· .ensures .1,
+            )),
       ),
     ))
     (λ c. search needs)  -- same-length
     -- returns
     (λ c. let args· = c .before .before .before .before .before .before .before .before .before .before .before .before .before
-    .before .before .before .before .before .before .before .args in let pre· = c .before .before .before .before .before
-    .before .before .before .before .before .before .before .before .before .before .before .before .before .before .before .pre
-    .1 in let emit-condition· = c .before .before .before .before .before .before .before .before .before .before .before
-    .before .before .emit-condition in let emit-block· = c .before .before .before .before .before .before .before .before
-    .emit-block in let emit-block2· = c .before .before .before .before .emit-block2 in (
-      secret-if-on _ _ _ (args· .scope)
-          (args· .cursor) _ _ _ _ (pre· .0 .read) (pre· .2) _ _ _ (emit-condition· .ensures .0) _ _ (emit-block· .ensures .0) _ _ (c
-          .before .before .before .before .before .before .before .before .before .before .before .before .before .before .before
-          .before .act-at .ensures .0) (pre· .3) (emit-block2· .ensures .0),
+    .before .before .before .before .before .before .before .args in let pre· = c .before .before .before .before .before .before
+    .before .before .before .before .before .before .before .before .before .before .before .before .before .before .pre .1 in let
+    emit-condition· = c .before .before .before .before .before .before .before .before .before .before .before .before .before
+    .emit-condition in let emit-block· = c .before .before .before .before .before .before .before .before .emit-block in let
+    emit-block2· = c .before .before .before .before .emit-block2 in (
+      secret-if-on _ _ _ (args· .scope) (args· .cursor) _ _ _ _
+          (pre· .0 .read) (pre· .2) _ _ _ (emit-condition· .ensures .0) _ _ (emit-block· .ensures .0) _ _ (c .before .before .before
+          .before .before .before .before .before .before .before .before .before .before .before .before .before .act-at .ensures .0)
+          (pre· .3) (emit-block2· .ensures .0),
       record {
         onward = omega (
           arith,
@@ -641,54 +529,47 @@ emit-secret-if-answers t = emit-secret-if-lts.spec (emit-secret-if-callees t) (e
         within = omega (
           arith,
           emit-block2· .ensures .1,
-          emit-block· .ensures
-              .1,
-          emit-condition· .ensures,
-        );
-        statements = omega (
-          arith,
-          emit-block2· .ensures .1,
           emit-block· .ensures .1,
           emit-condition·
               .ensures,
         );
-        taken = omega (arith, emit-block2· .ensures .1, emit-block· .ensures .1, emit-condition· .ensures);
+        statements = omega (arith, emit-block2· .ensures .1, emit-block· .ensures .1, emit-condition· .ensures);
       },
     ))
 
-emit-statement-answers : {M : Type 1} (t : ℕ) → emit-statement-lts.Closed (emit-statement-callees t) (emit-statement-at t) emit-statement.Post M
+emit-statement-answers : {M : Type 1} (t : ℕ) → emit-statement-lts.Closed (emit-statement-callees t) (emit-statement-at t)
+    emit-statement.Post M
 emit-statement-answers t = emit-statement-lts.spec (emit-statement-callees t) (emit-statement-at t) emit-statement.Post
     (λ c. search needs) (λ c. search needs) (λ c κs. search needs)  -- mul-op, shared-slice-read-op, op-requires
     -- emit-if-requires
-    (λ c κs. (
+    (λ c κs. let pre· = c .before .before .before .before .before .before .before .pre .1 in (
       search needs,
       (
-        c .before .before .before .before .before .before .before .pre .1 .0,
-        c .before .before .before .before
-            .before .before .before .pre .1 .1,
+        pre· .0,
+        pre· .1,
         told (c .before .before .op .ensures) (c .before .if1 .taken),
       ),
     ))
     (λ c. search needs) (λ c. search needs)  -- same-length, returns
     -- emit-for-requires
-    (λ c κs. (
+    (λ c κs. let pre· = c .before .before .before .before .before .before .before .before .pre .1 in (
       search needs,
       (
-        c .before .before .before .before .before .before .before .before .pre .1 .0,
-        c .before .before .before
-            .before .before .before .before .before .pre .1 .1,
+        pre· .0,
+        pre·
+            .1,
         told (c .before .before .before .op .ensures) (c .before .if2 .taken),
       ),
     ))
     (λ c. search needs) (λ c. search needs)  -- same-length-2, returns-2
     -- emit-simple-requires
-    (λ c κs. let pre· = c .before .before .before .before .before .before .before .before .pre .1 in let op· = c .before .before
-    .before .op in (
+    (λ c κs. let pre· = c .before .before .before .before .before .before .before .before .pre .1 in (
       pre· .0,
       pre· .1,
-      not-told (op· .ensures) (c .before .before .if1 .left),
-      not-told (op· .ensures) (c .before
-          .if2 .left),
+      not-told
+          (c .before .before .before .op .ensures) (c .before .before .if1 .left),
+      not-told (c .before .before .before .op .ensures) (c
+          .before .if2 .left),
     ))
     (λ c. search needs)  -- same-length-3
     -- returns-3
@@ -699,4 +580,6 @@ emit-statement-answers t = emit-statement-lts.spec (emit-statement-callees t) (e
     ))
 
 pub +emit-block+emit-body+emit-for+emit-if+emit-public-if+emit-secret-if+emit-statement-spec : {M : Type 1} → statement M
-+emit-block+emit-body+emit-for+emit-if+emit-public-if+emit-secret-if+emit-statement-spec = close μ-emit-block μ-emit-body μ-emit-for μ-emit-if μ-emit-public-if μ-emit-secret-if μ-emit-statement emit-block-answers emit-body-answers emit-for-answers emit-if-answers emit-public-if-answers emit-secret-if-answers emit-statement-answers
++emit-block+emit-body+emit-for+emit-if+emit-public-if+emit-secret-if+emit-statement-spec = close μ-emit-block μ-emit-body
+    μ-emit-for μ-emit-if μ-emit-public-if μ-emit-secret-if μ-emit-statement emit-block-answers emit-body-answers emit-for-answers
+    emit-if-answers emit-public-if-answers emit-secret-if-answers emit-statement-answers

@@ -11,61 +11,58 @@ emit-call-statement-spec = let answers = tie.spec
     -- is-guarded-requires
     (λ c κs. let args· = c .before .before .before .before .args in let pre· = c .before .before .before .before .pre in
     called-listed (args· .scope) (args· .cursor) _ _ _ (pre· .0 .read) (pre· .2) _ (c .called .ensures .0) _ (pre· .1 .listed))
-    (λ c κs. search needs) (λ c κs. search needs) (λ c κs. search needs)  -- parameters-requires, result-requires, renumber-requires
+    (λ c κs. search needs) (λ c κs. search needs)  -- parameters-requires, result-requires
+    (λ c κs. search needs)  -- renumber-requires
+    -- result-type-requires
+    (λ c κs. let args· = c .before .before .before .before .before .before .before .before .args in let pre· = c .before .before
+    .before .before .before .before .before .before .pre in called-listed (args· .scope) (args· .cursor) _ _ _ (pre· .0 .read)
+    (pre· .2) _ (c .before .before .before .before .called .ensures .0) _ (pre· .1 .listed))
+    (λ c κs. search needs) (λ c κs. search needs)  -- type-sort-requires, temporary-for-requires
     (λ c κs. search needs) (λ c. search needs) (λ c. search needs)  -- act-at-requires, add-emit-call, sub-emit-call
     -- emit-call-requires
-    (λ c κs. (
+    (λ c κs. let args· = c .before .before .before .before .before .before .before .before .before .before .before .before .before
+    .args in let pre· = c .before .before .before .before .before .before .before .before .before .before .before .before .before
+    .pre in (
       c .before .act-at .ensures .1,
       search needs,
       search needs,
       search needs,
       search needs,
-      values-read (c .before .before
-          .before .before .before .before .before .before .before .before .args .scope) (c .before .before .before .before .before
-          .before .before .before .before .before .args .cursor) _ _ _ (c .before .before .before .before .before .before .before
-          .before .before .before .pre .0 .read) (c .before .before .before .before .before .before .before .before .before .before
-          .pre .2) _ (c .before .before .before .before .before .before .called .ensures .0) _ (c .before .before .before .before
-          .parameters .ensures),
+      values-read (args· .scope)
+          (args· .cursor) _ _ _ (pre· .0 .read) (pre· .2) _ (c .before .before .before .before .before .before .before .before .before
+          .called .ensures .0) _ (c .before .before .before .before .before .before .before .parameters .ensures),
     ))
-    (λ c κs. search needs) (λ c κs. search needs)  -- statements-of-requires, temporaries-of-requires
-    -- add-t21
-    (λ c. omega (
-      arith,
-      c .before .before .before .before .before .before .before .before .before .before .before .before .before
-          .before .before .before .before .before .pre .1,
-    ))
+    (λ c κs. search needs)  -- statements-of-requires
     -- add-t22
     (λ c. omega (
       arith,
       c .before .before .before .before .before .before .before .before .before .before .before .before .before
-          .before .before .before .before .before .before .pre .1,
+          .before .before .before .before .before .before .before .pre .1,
     ))
     (λ c. search needs)  -- same-length
     -- returns
     (λ c. let args· = c .before .before .before .before .before .before .before .before .before .before .before .before .before
-    .before .before .before .before .before .before .args in let pre· = c .before .before .before .before .before .before
-    .before .before .before .before .before .before .before .before .before .before .before .before .before .pre in let
-    statements-of· = c .before .before .before .statements-of in let emit-call· = c .before .before .before .before .before
-    .before .before .before .emit-call in (
-      (λ types. simple-call (args· .scope) (args· .cursor) _ _ _ (pre· .0 .read) (pre· .2)
-          _ (c .before .before .before .before .before .before .before .before .before .before .before .before .before .before .before
-          .called .ensures .0) _ _ types _ _ _ _ _ _ _ _ _ _ (c .before .before .before .before .before .before .before .before
-          .before .before .before .before .before .before .is-guarded .ensures) (c .before .before .before .before .before .before
-          .before .before .before .before .before .before .before .parameters .ensures) (c .before .before .before .before .before
-          .before .before .before .before .before .before .before .result .ensures .0) (c .before .before .before .before .before
-          .before .before .before .before .before .before .renumber .ensures .0) (statements-of· .ensures .0) (c .before .before
-          .temporaries-of .ensures .0) (c .before .before .before .before .before .before .before .before .before .before .act-at
-          .ensures .0) (emit-call· .ensures .0)),
+    .before .before .before .before .before .before .before .args in let pre· = c .before .before .before .before .before .before
+    .before .before .before .before .before .before .before .before .before .before .before .before .before .before .pre in let
+    emit-call· = c .before .before .before .before .before .before .emit-call in (
+      (λ types. simple-call (args· .scope) (args·
+          .cursor) _ _ _ (pre· .0 .read) (pre· .2) _ (c .before .before .before .before .before .before .before .before .before .before
+          .before .before .before .before .before .before .called .ensures .0) _ _ types _ _ _ _ _ _ _ _ _ _ _ _ (c .before .before
+          .before .before .before .before .before .before .before .before .before .before .before .before .before .is-guarded .ensures)
+          (c .before .before .before .before .before .before .before .before .before .before .before .before .before .before .parameters
+          .ensures) (c .before .before .before .before .before .before .before .before .before .before .before .before .before .result
+          .ensures .0) (c .before .before .before .before .before .before .before .before .before .before .before .before .renumber
+          .ensures .0) (c .before .before .before .before .before .before .before .before .before .before .before .result-type .ensures)
+          (c .before .before .before .before .before .before .before .before .before .before .type-sort .ensures .0) (c .before .before
+          .before .before .before .before .before .before .before .temporary-for .ensures .0) (c .before .statements-of .ensures .0) (c
+          .before .before .before .before .before .before .before .before .act-at .ensures .0) (emit-call· .ensures .0)),
       record {
         onward = omega (arith, emit-call· .ensures);
-        within = emit-call· .ensures
-            .2;
-        statements = omega (arith, emit-call· .ensures, statements-of· .ensures);
-        taken = omega (
+        within = emit-call· .ensures .2;
+        statements = omega (
           arith,
           emit-call· .ensures,
-          c
-              .before .before .temporaries-of .ensures,
+          c .before .statements-of .ensures,
         );
       },
     ))

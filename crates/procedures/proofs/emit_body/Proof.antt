@@ -10,10 +10,7 @@ emit-body-spec = let answers = tie.spec
     (λ c κs. c .before .before .before .before .before .before .before .before .pre)  -- emit-inner-requires
     (λ c κs. search needs) (λ c κs. search needs) (λ c. search needs)  -- block-with-requires, patch-requires, same-length
     -- returns
-    (λ c. let emit-inner· = c .before .before .before .before .before .before .before .emit-inner in (
-      body-on _ _ _ _ _ _ _ _ _ _ (c
-          .before .before .before .before .before .before .before .before .before .before .before .put .ensures) (emit-inner· .ensures
-          .0) (c .before .before .before .block-with .ensures) (c .before .before .patch .ensures),
-      emit-inner· .ensures .2,
-    ))
+    (λ c. body-on _ _ _ _ _ _ _ _ _ _ (c .before .before .before .before .before .before .before .before .before .before .before
+    .put .ensures) (c .before .before .before .before .before .before .before .emit-inner .ensures .0) (c .before .before .before
+    .block-with .ensures) (c .before .before .patch .ensures))
     in tie.close answers
