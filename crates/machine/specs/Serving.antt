@@ -14,7 +14,7 @@ use Rattle.tables.specs.Table.{paramsIn, Known}
 use Rattle.reader.specs.Ends.{BlockEnds}
 use Rattle.machine.specs.declared.Machine.{Machine}
 use Rattle.machine.specs.declared.Turn.{Turn}
-use Rattle.machine.specs.Turns.{held}
+use Rattle.machine.specs.Turns.{held, Kept}
 
 -- a machine has as many cells as the image's arrays
 abbrev pub Whole : List ℕ → ℕ → Type 0
@@ -42,11 +42,12 @@ left (Done v z n) before after = after
 left (Stopped k p z n) before after = before
 left (Refused k p) before after = before
 
--- A call that ran in an array gives what the definition's call gives: the answer, the cells and the lent trace. Nothing is said of the array's words
--- behind the image's own, nor of any after a stop or a refusal: they are dropped.
+-- A call that ran in an array gives what the definition's call gives: the answer, the cells, as many as before, and the lent trace. Nothing is said of
+-- the array's words behind the image's own, nor of any after a stop or a refusal: they are dropped.
 pub record Outcome (image first last : List ℕ) (r : Answer) (before after : List ℕ) (q : Called) : Type 0 where
   pub answer : r ≡ q .0
   pub cells : ownIn image (left r first last) ≡ q .1
+  pub whole : length (ownIn image (left r first last)) ≡ length (ownIn image first)
   pub trace : after ≡ lent before (q .2)
 
 -- The turn gives what the definition's call gives, the lent trace too, and the machine holds as many cells as before.
@@ -54,7 +55,7 @@ pub record TurnedCall (m : Machine) (r : Turn) (before after : List ℕ) (q : Ca
   pub answer : r .answer ≡ q .0
   pub cells : held (r .machine) ≡ q .1
   pub trace : after ≡ lent before (q .2)
-  pub same : r .machine .count ≡ m .count
+  pub kept : Kept (r .answer) m (r .machine)
 
 -- The turn gives the answer and the lent trace of the definition's call, and the machine that came in, its array's spare words too.
 pub record TurnedPreview (m : Machine) (r : Turn) (before after : List ℕ) (q : Called) : Type 0 where

@@ -9,7 +9,7 @@ ghost use Rattle.laws.specs.ImageIn.{imageIn};
 ghost use Rattle.tables.specs.Table.{arraysIn};
 ghost use Rattle.requests.specs.Cells.{Fits};
 ghost use Rattle.requests.specs.OwnCells.{clearOn, pokeOn, peekOn};
-ghost use Rattle.machine.specs.Turns.{held, Turned};
+ghost use Rattle.machine.specs.Turns.{held, Turned, givenBack};
 ghost use Rattle.machine.specs.Serving.{Serves, TurnedCall, TurnedPreview};
 use definitions::Answer;
 use evaluator::CELLS;
@@ -19,6 +19,7 @@ use runs::call_on;
 use tables::SIZE;
 
 mod runs; // a call over an array of cells
+pub mod small; // the machine of an image with few cells
 
 // The first `count` words are the cells of the image; those behind them mean nothing.
 pub struct Machine {
@@ -90,10 +91,11 @@ impl Machine {
                 answer: Answer::Refused(17, 0),
             };
         };
-        let mut next = self;
-        next.cells[at] = v;
+        let count = self.count;
+        let mut cells = self.cells;
+        cells[at] = v;
         Turn {
-            machine: next,
+            machine: Machine { cells, count },
             answer: Answer::Done(0, 0, 0),
         }
     }
@@ -174,14 +176,23 @@ impl Machine {
 }
 
 impl Turn {
-    // The cells go back into the lent bytes; the answer is left.
+    // What is done goes back into the lent bytes. After a refusal or a stop these hold the machine's cells already, and nothing is written: so the
+    // run's array is the only one that a call needs.
     pub fn give_back(self, cells: &mut [u8]) -> Answer
         requires { ⌜ (self .machine .count ≤ 1024) × (4 * self .machine .count ≤ length (now cells)) ⌝ }
-        ensures { λ r. ⌜ (r ≡ self .answer) × (now (cells .exit) ≡ bytesOf (held (self .machine)) ++ drop (4 * self .machine .count) (now (cells .entry))) ⌝ }
+        ensures { λ r. ⌜ (r ≡ self .answer) × (now (cells .exit) ≡ givenBack (self .answer) (self .machine) (now (cells .entry))) ⌝ }
     {
         let machine = self.machine;
         let answer = self.answer;
-        machine.give_back(cells);
-        answer
+        match answer {
+            Answer::Done(v, steps, used) => {
+                machine.give_back(cells);
+                Answer::Done(v, steps, used)
+            }
+            Answer::Stopped(number, place, steps, used) => {
+                Answer::Stopped(number, place, steps, used)
+            }
+            Answer::Refused(number, place) => Answer::Refused(number, place),
+        }
     }
 }

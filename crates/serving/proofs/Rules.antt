@@ -12,7 +12,7 @@ use Rattle.definitions.specs.Image.{Image, baseOf}
 use Rattle.definitions.specs.Requests.{Served, Called, carriedOut, unready, readyToLoad, readyToServe, calledOn}
 use Rattle.definitions.specs.Host.{wholeWords, loadBytes, clearBytes, pokeBytes, peekBytes, callBytes, previewBytes}
 use Rattle.definitions.specs.declared.Answer.{Answer}
-use Rattle.definitions.specs.declared.Answer.the-variants.{Refused}
+use Rattle.definitions.specs.declared.Answer.the-variants.{Done, Stopped, Refused}
 use Rattle.laws.specs.ImageIn.{imageIn}
 use Rattle.laws.specs.Previews.{preview-is-call-on-a-copy}
 use Rattle.laws.specs.WordsOfBytes.{lent-front, length-wordsOf, lent-wordsOf}
@@ -25,7 +25,7 @@ use Rattle.requests.specs.ByteRequests.{load-ready, clear-ready, poke-ready, pe
 use Rattle.checker.specs.Left.{ends-left}
 use Rattle.machine.specs.declared.Machine.{Machine}
 use Rattle.machine.specs.declared.Turn.{Turn}
-use Rattle.machine.specs.Turns.{held, Turned}
+use Rattle.machine.specs.Turns.{held, Kept, givenBack, Turned}
 use Rattle.machine.specs.Serving.{Serves, TurnedCall, TurnedPreview}
 use Rattle.ready.specs.declared.Ready.{Ready}
 use Rattle.ready.specs.declared.Ready.the-variants.{Cells, Unready}
@@ -81,35 +81,55 @@ front-back cells own bytes h =
     ∙ ap (λ (x : List ℕ). lent cells x) (take-append-drop own (wordsOf cells))
     ∙ lent-wordsOf cells bytes
 
-pub back-asks : (size own m t : ℕ) → m ≡ own → t ≡ m → own ≤ 1024 → 4 * own ≤ size → (t ≤ 1024) × (4 * t ≤ size)
-back-asks size own m t c same few enough = let n : t ≡ own = same ∙ c in rw n (few, enough)
+kept-count : (a : Answer) (m after : Machine) → Kept a m after → after .count ≡ m .count
+unfolding Kept
+kept-count (Done v z n) m after k = k
+kept-count (Stopped i p z n) m after k = ap (λ (x : Machine). x .count) k
+kept-count (Refused i p) m after k = ap (λ (x : Machine). x .count) k
 
-module _ (cells : List ℕ) (own : ℕ) (m : Machine) (c : m .count ≡ own) (t : Turn) (same : t .machine .count ≡ m .count) where
-  -- a request on the image's own cells that keeps their number
-  given-back : (s : Served) → _≡_ {A = Served} (t .answer, held (t .machine)) s → (r : Answer) (after : List ℕ) → r ≡ t .answer
-      → after ≡ bytesOf (held (t .machine)) ++ drop (4 * t .machine .count) cells → (r, after) ≡ afterwards cells own s
-  given-back s gives r after a e =
-      let n : t .machine .count ≡ own = same ∙ c in
-      let d : r ≡ s .0 = a ∙ ap (λ (x : Served). x .0) gives in
-      let h : held (t .machine) ≡ s .1 = ap (λ (x : Served). x .1) gives in
-      rw (e, d, h, n)
+pub back-asks : (size own most : ℕ) (m : Machine) (t : Turn) → m .count ≡ own → Kept (t .answer) m (t .machine) → own ≤ most → 4 * own ≤ size
+    → (t .machine .count ≤ most) × (4 * t .machine .count ≤ size)
+back-asks size own most m t c kept few enough = let n : t .machine .count ≡ own = kept-count (t .answer) m (t .machine) kept ∙ c in rw n (few, enough)
+
+module _ (cells : List ℕ) (bytes : Bytes cells) (own : ℕ) (enough : 4 * own ≤ length cells) (m : Machine) (h : held m ≡ take own (wordsOf cells))
+    (c : m .count ≡ own) where
+  -- what is not written stands there already
+  back : (a : Answer) (after : Machine) → Kept a m after → givenBack a after cells ≡ bytesOf (held after) ++ drop (4 * after .count) cells
+  unfolding Kept
+  back (Done v z n) after k = refl
+  back (Stopped i p z n) after k = rw (k, h, c) (sym (front-back cells own bytes enough))
+  back (Refused i p) after k = rw (k, h, c) (sym (front-back cells own bytes enough))
+
+  module _ (t : Turn) (kept : Kept (t .answer) m (t .machine)) (after : List ℕ) (e : after ≡ givenBack (t .answer) (t .machine) cells) where
+    own-back : after ≡ bytesOf (held (t .machine)) ++ drop (4 * own) cells
+    own-back =
+        e ∙ back (t .answer) (t .machine) kept
+        ∙ ap (λ (k : ℕ). bytesOf (held (t .machine)) ++ drop (4 * k) cells) (kept-count (t .answer) m (t .machine) kept ∙ c)
+
+    -- a request on the image's own cells that keeps their number
+    given-back : (s : Served) → _≡_ {A = Served} (t .answer, held (t .machine)) s → (r : Answer) → r ≡ t .answer → (r, after) ≡ afterwards cells own s
+    given-back s gives r a =
+        let d : r ≡ s .0 = a ∙ ap (λ (x : Served). x .0) gives in
+        let g : held (t .machine) ≡ s .1 = ap (λ (x : Served). x .1) gives in
+        rw (own-back, d, g)
 
 module _ (image cells table : List ℕ) (bytes : Bytes cells) (own : ℕ) (m : Machine) (h : held m ≡ take own (wordsOf cells)) (c : m .count ≡ own)
-    (t : Turn) (r : Answer) (after : List ℕ) (a : r ≡ t .answer) (e : after ≡ bytesOf (held (t .machine)) ++ drop (4 * t .machine .count) cells) where
-  cleared : Turned m t (clearOn (m .count)) → (r, after) ≡ afterwards cells own (clearOn own)
-  cleared turned =
-      given-back cells own m c t (turned .same) (clearOn (m .count)) (turned .gives) r after a e ∙ ap (λ (k : ℕ). afterwards cells own (clearOn k)) c
+    (t : Turn) (r : Answer) (after : List ℕ) (a : r ≡ t .answer) (e : after ≡ givenBack (t .answer) (t .machine) cells) where
+  cleared : 4 * own ≤ length cells → Turned m t (clearOn (m .count)) → (r, after) ≡ afterwards cells own (clearOn own)
+  cleared enough turned =
+      given-back cells bytes own enough m h c t (turned .kept) after e (clearOn (m .count)) (turned .gives) r a
+      ∙ ap (λ (k : ℕ). afterwards cells own (clearOn k)) c
 
   pub load-done : Own image cells table (readyToLoad (wholeWords image) (wordsOf image)) own → Turned m t (clearOn (m .count)) → (r, after) ≡ loadBytes image cells
-  load-done o turned = cleared turned ∙ sym (load-ready cells bytes image (o .tree) own (o .all) (o .enough) (o .is-ready))
+  load-done o turned = cleared (o .enough) turned ∙ sym (load-ready cells bytes image (o .tree) own (o .all) (o .enough) (o .is-ready))
 
   module _ (o : Own image cells table (readyToServe (wholeWords image) (wordsOf image)) own) where
     pub clear-done : Turned m t (clearOn (m .count)) → (r, after) ≡ clearBytes image cells
-    clear-done turned = cleared turned ∙ sym (clear-ready cells bytes image (o .tree) own (o .all) (o .enough) (o .is-ready))
+    clear-done turned = cleared (o .enough) turned ∙ sym (clear-ready cells bytes image (o .tree) own (o .all) (o .enough) (o .is-ready))
 
     pub poke-done : (b i v : ℕ) → Turned m t (pokeOn (arraysIn table) (held m) b i v) → (r, after) ≡ pokeBytes image cells b i v
     poke-done b i v turned =
-        given-back cells own m c t (turned .same) (pokeOn (arraysIn table) (held m) b i v) (turned .gives) r after a e
+        given-back cells bytes own (o .enough) m h c t (turned .kept) after e (pokeOn (arraysIn table) (held m) b i v) (turned .gives) r a
         ∙ (let s = o .arrays in rw (h, s)
         (sym (poke-ready cells bytes image (o .tree) own (o .all) (o .enough) (o .is-ready) b i v)))
 
@@ -135,13 +155,12 @@ module _ (image cells table : List ℕ) (bytes : Bytes cells) (own : ℕ) (m : M
 -- ---- a call and a preview
 
 pub called-back : (words cells after before trace : List ℕ) (own : ℕ) (m : Machine) (t : Turn) (f : ℕ) (arguments : List ℕ) (budget : ℕ) (r : Answer)
-    → held m ≡ take own (wordsOf cells) → m .count ≡ own
+    → Bytes cells → 4 * own ≤ length cells → held m ≡ take own (wordsOf cells) → m .count ≡ own
     → TurnedCall m t before trace (calledOn (imageIn words) (held m) f (wordsOf arguments) budget (length (wordsOf before)))
-    → r ≡ t .answer → after ≡ bytesOf (held (t .machine)) ++ drop (4 * t .machine .count) cells
+    → r ≡ t .answer → after ≡ givenBack (t .answer) (t .machine) cells
     → (r, after, trace) ≡ afterCall cells own before (calledOn (imageIn words) (take own (wordsOf cells)) f (wordsOf arguments) budget (length (wordsOf before)))
-called-back words cells after before trace own m t f arguments budget r h c turned a e =
-    let n : t .machine .count ≡ own = turned .same ∙ c in
-    rw (e, a ∙ turned .answer, turned .cells, n, turned .trace, h)
+called-back words cells after before trace own m t f arguments budget r bytes enough h c turned a e =
+    rw (own-back cells bytes own enough m h c t (turned .kept) after e, a ∙ turned .answer, turned .cells, turned .trace, h)
 
 module _ (image cells words words′ table ends : List ℕ) (bytes : Bytes cells) (r : Ready)
     (q : Prepared r (readyToServe (wholeWords image) (wordsOf image) (length cells / 4)) image words words′ table ends) (own : ℕ) (f : r ≡ Cells own) where

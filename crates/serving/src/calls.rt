@@ -1,6 +1,8 @@
 // A call: the run's entries go into the lent trace as they arise.
 use definitions::Answer;
 use machine::Machine;
+use machine::small::FEW;
+use machine::small::SmallMachine;
 use ready::Ready;
 use ready::prepare_to_serve;
 use tables::SIZE;
@@ -35,6 +37,11 @@ fn call_cells(
     ensures { λ r. ⌜ (r, now (cells .exit), now (trace .exit)) ≡ afterCall (now (cells .entry)) own (now (trace .entry)) (calledOn (imageIn (now (words .entry)))
         (take own (wordsOf (now (cells .entry)))) f (wordsOf (now (arguments .entry))) budget (length (wordsOf (now (trace .entry))))) ⌝ }
 {
+    if own <= FEW {
+        let machine = SmallMachine::lent(cells, own);
+        let turn = machine.call(words, table, ends, f, arguments, budget, trace);
+        return turn.give_back(cells);
+    }
     let turn = Machine::lent(cells, own).call(words, table, ends, f, arguments, budget, trace);
     turn.give_back(cells)
 }

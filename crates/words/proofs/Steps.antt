@@ -1,6 +1,6 @@
 -- One word more is read, or written: what the loops of this crate do in a turn.
 -- Assumes nothing.
-use mathlib.Core.Path.{_≡_, refl, ap, _∙_}
+use mathlib.Core.Path.{_≡_, refl, sym, ap, _∙_}
 use mathlib.Core.List.{List, [], _∷_, _++_}
 use Prim.Native.Nat.{ℕ, suc, _+_, _*_, _/_, _%_, _^_, _≤_, _<_}
 use native.Mathlib.Numerals.{add-one}
@@ -18,11 +18,13 @@ stores l at w =
     let e2 : at + 2 ≡ suc (suc at) = omega arith in
     let e3 : at + 3 ≡ suc (suc (suc at)) = omega arith in rw (e1, e2, e3)
 
+pub copy-more : (from out : List ℕ) (i w : ℕ) → i < length from → i < length out → w ≡ getD from i 0 → take i out ≡ take i from
+    → take (i + 1) (set out i w) ≡ take (i + 1) from
+copy-more from out i w h l e t = rw (add-one, take-suc-set out i w l, take-suc from i 0 h, t, e)
+
 pub read-more : (b out : List ℕ) (i w : ℕ) → i < length b / 4 → i < length out → w ≡ wordAt b i → take i out ≡ take i (wordsOf b)
     → take (i + 1) (set out i w) ≡ take (i + 1) (wordsOf b)
-read-more b out i w h l e t =
-    let long : i < length (wordsOf b) = rw length-wordsOf h in
-    rw (add-one, take-suc-set out i w l, take-suc (wordsOf b) i 0 long, t, getD-wordsOf b i h, e)
+read-more b out i w h l e t = copy-more (wordsOf b) out i w (rw length-wordsOf h) l (e ∙ sym (getD-wordsOf b i h)) t
 
 -- stores behind p go into what follows it
 sets-append : (p q v : List ℕ) (n : ℕ) → length p ≡ n → length v ≤ length q → sets (p ++ q) n v ≡ p ++ v ++ drop (length v) q

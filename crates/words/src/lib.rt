@@ -36,6 +36,18 @@ pub fn read_words(b: &[u8], out: &mut [u32], n: usize)
     }
 }
 
+// The first n words of one slice go to the front of another; the words behind them stay.
+pub fn copy_words(from: &[u32], out: &mut [u32], n: usize)
+    requires { ⌜ (n ≤ length (now from)) × (n ≤ length (now out)) ⌝ }
+    ensures { λ _. ⌜ (take n (now (out .exit)) ≡ take n (now (from .entry))) × (drop n (now (out .exit)) ≡ drop n (now (out .entry))) ⌝ }
+{
+    let mut k = 0;
+    while k < n {
+        out[k] = from[k];
+        k += 1;
+    }
+}
+
 // The four bytes of w go to the byte offset at and the three after it. The four bounds are written out, since a proof
 // by search finds a store after a store only so.
 pub fn put_word(out: &mut [u8], at: usize, w: u32)

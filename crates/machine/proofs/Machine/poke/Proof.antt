@@ -11,17 +11,21 @@ poke-spec = let answers = tie.spec
     -- returns
     (λ c. no-poke _ (c .before .before .before .args .table .now) _ _ (c .before .before .before .pre) _ (c .before .before
     .find-cell .ensures) _ (c .enum-told .given .1))
-    -- mul-next
-    (λ c. let args· = c .before .before .before .before .args in omega (
+    -- mul-cells
+    (λ c. let args· = c .before .before .before .before .before .args in omega (
       arith,
       slot-small (args· .self) (args· .table .now) _ _ (c
-          .before .before .before .before .pre) _ (c .before .before .before .find-cell .ensures) _ (c .before .s .given .1),
+          .before .before .before .before .before .pre) _ (c .before .before .before .before .find-cell .ensures) _ (c
+          .before .before .s .given .1),
     ))
-    -- element-write-next
-    (λ c. let h = slot-small (c .before .before .before .before .args .self) (c .before .before .before .before .args .table .now) _
-    _ (c .before .before .before .before .pre) _ (c .before .before .before .find-cell .ensures) _ (c .before .s .given .1) in
+    -- array-write-cells
+    (λ c. let args· = c .before .before .before .before .before .args in let h = slot-small (args· .self) (args· .table
+    .now) _
+    _ (c .before .before .before .before .before .pre) _ (c .before .before .before .before .find-cell .ensures) _ (c
+    .before .before .s .given .1) in
     search needs)
     -- returns-2
-    (λ c. poked _ (c .before .before .before .before .args .table .now) _ _ (c .before .before .before .before .pre) _ (c .before
-    .before .before .find-cell .ensures) _ (c .before .s .given .1) _)
+    (λ c. poked _ (c .before .before .before .before .before .args .table .now) _ _ (c .before .before .before .before
+    .before .pre) _ (c .before
+    .before .before .before .find-cell .ensures) _ (c .before .before .s .given .1) _)
     in tie.close answers

@@ -25,8 +25,8 @@ clear-spec = let answers = tie.spec
     (λ c κs. let args· = c .before .before .before .before .before .before .before .before .before .before .before .args in let
     ready-to-serve· = c .before .before .before .before .before .before .before .ready-to-serve in let o = (serve-own (args·
     .image .now) (args· .cells .now) _ _ _ (c .before .before .before .before .before .own .given .1) (ready-to-serve·
-    .ensures .0) (ready-to-serve· .ensures .1)) in back-asks _ _ _ _ (c .before .before .lent .ensures .1) (c .before .clear
-    .ensures .same) (o .few) (o .enough))
+    .ensures .0) (ready-to-serve· .ensures .1)) in back-asks _ _ _ _ _ (c .before .before .lent .ensures .1) (c .before .clear
+    .ensures .kept) (o .few) (o .enough))
     -- returns
     (λ c. let args· = c .before .before .before .before .before .before .before .args in clear-not (args· .image .now) (args·
     .cells .now) (λ i. omega (arith, (c .before .before .before .before .before .slice-known .given) i)) _ _ _ (c .before

@@ -25,8 +25,8 @@ load-spec = let answers = tie.spec
     (λ c κs. let args· = c .before .before .before .before .before .before .before .before .before .before .before .args in let
     ready-to-load· = c .before .before .before .before .before .before .before .ready-to-load in let o = (load-own (args·
     .image .now) (args· .cells .now) _ _ _ (c .before .before .before .before .before .own .given .1) (ready-to-load·
-    .ensures .0) (ready-to-load· .ensures .1)) in back-asks _ _ _ _ (c .before .before .lent .ensures .1) (c .before .load
-    .ensures .same) (o .few) (o .enough))
+    .ensures .0) (ready-to-load· .ensures .1)) in back-asks _ _ _ _ _ (c .before .before .lent .ensures .1) (c .before .load
+    .ensures .kept) (o .few) (o .enough))
     -- returns
     (λ c. let args· = c .before .before .before .before .before .before .before .args in load-not (args· .image .now) (args·
     .cells .now) (λ i. omega (arith, (c .before .before .before .before .before .slice-known .given) i)) _ _ _ (c .before
