@@ -8,6 +8,7 @@
  *   new COUNT             fill VALUE                cells             (the cell slice that this host lends)
  *   poke ARRAY INDEX VALUE    peek ARRAY INDEX    clear
  *   call PROCEDURE BUDGET TRACECAP ARGUMENT..     preview PROCEDURE BUDGET TRACECAP ARGUMENT..
+ *   agree W.. | W..       (a trace and a board probe's recording, in words)
  */
 #include <stdio.h>
 #include <stdlib.h>
@@ -57,7 +58,7 @@ struct request {
     struct fields rest;
 };
 
-/* ---- images and arguments from the fields of a line ---- */
+/* ---- images, arguments and recordings from the fields of a line ---- */
 
 /* checkbytes, compilebytes, loadbytes and describebytes take the image in bytes */
 static bool takes_bytes(const struct request *line)
@@ -75,26 +76,56 @@ static bool append_bytes(struct slice *bytes, struct field field)
     return true;
 }
 
-/* an image: words of 8 digits, or in one field its bytes; on false nothing is left to free */
-static bool image_in(struct request *line, struct slice *image)
+/* the rest of a line: words of 8 digits, or where `raw` the bytes of one field; on false nothing is left to free */
+static bool bytes_in(struct fields *line, bool raw, struct slice *bytes)
 {
-    bool raw = takes_bytes(line);
     struct field field;
     size_t fields = 0;
-    *image = allocate((size_t)(line->rest.end - line->rest.next) / 2);
-    image->length = 0;
-    while (next_field(&line->rest, &field)) {
+    *bytes = allocate((size_t)(line->end - line->next) / 2);
+    bytes->length = 0;
+    while (next_field(line, &field)) {
         fields++;
         bool fits = raw ? fields == 1 : field.length == 8;
-        if (!fits || !append_bytes(image, field)) {
-            free(image->at);
+        if (!fits || !append_bytes(bytes, field)) {
+            free(bytes->at);
             return false;
         }
     }
-    struct slice exact = allocate(image->length);
-    memcpy(exact.at, image->at, exact.length);
-    replace(image, exact);
+    struct slice exact = allocate(bytes->length);
+    memcpy(exact.at, bytes->at, exact.length);
+    replace(bytes, exact);
     return true;
+}
+
+/* an image in words, or in bytes where the request's name says so; on false nothing is left to free */
+static bool image_in(struct request *line, struct slice *image)
+{
+    return bytes_in(&line->rest, takes_bytes(line), image);
+}
+
+/* takes the fields before a bar, and the bar; false where there is none */
+static bool fields_to_bar(struct fields *line, struct fields *before)
+{
+    struct field field;
+    before->next = line->next;
+    while (next_field(line, &field)) {
+        before->end = field.start;
+        if (field_is(field, "|"))
+            return true;
+    }
+    return false;
+}
+
+/* a trace, a bar, and a recording: a second bar is no word; on false nothing is left to free */
+static bool recording_in(struct fields *line, struct slice *trace, struct slice *probe)
+{
+    struct fields before;
+    if (!fields_to_bar(line, &before) || !bytes_in(&before, false, trace))
+        return false;
+    if (bytes_in(line, false, probe))
+        return true;
+    free(trace->at);
+    return false;
 }
 
 /* the arguments of a call or preview as words; on false nothing is left to free */
@@ -328,6 +359,24 @@ static bool on_call(struct session *session, struct request *line)
     return true;
 }
 
+static bool on_agree(struct session *session, struct request *line)
+{
+    (void)session;
+    struct slice trace, probe;
+    uint8_t answer[TINESAGE_ANSWER];
+    if (!recording_in(&line->rest, &trace, &probe))
+        return false;
+    tinesage_compare(trace.at, trace.length, probe.at, probe.length, answer, sizeof answer);
+    struct tinesage_answer a = tinesage_read_answer(answer);
+    if (a.result == TINESAGE_AGREE)
+        puts("ok agree");
+    else
+        printf("ok part %llu\n", (unsigned long long)a.count);
+    free(probe.at);
+    free(trace.at);
+    return true;
+}
+
 static void fill(struct slice cells, uint32_t value)
 {
     for (size_t i = 0; i < cells.length / 4; i++)
@@ -377,6 +426,7 @@ static const struct handler handlers[] = {
     {"describe", on_describe}, {"describebytes", on_describe}, {"load", on_load},       {"loadbytes", on_load},
     {"new", on_new},           {"fill", on_fill},              {"cells", on_cells},     {"clear", on_clear},
     {"poke", on_poke},         {"peek", on_peek},              {"call", on_call},       {"preview", on_call},
+    {"agree", on_agree},
 };
 
 static bool answer_request(struct session *session, struct request *line)

@@ -2,8 +2,10 @@
  * A short host. It compiles the paper's example image, loads source and compiled form in turn, and calls each with two
  * values of its secret parameter: the source's trace tells them apart, the compiled form's does not. Then it loads an
  * image with an array, pokes its cells and calls the procedure that adds them up, with a trace slice just as long as a
- * preview says that it has to be. Last it compiles an image that adds two long numbers under a secret condition, and
- * calls it with both values of the condition: the sum is stored or not, and the traces are equal to the last byte.
+ * preview says that it has to be. Against a trace of each image it holds two recordings of a board probe: one agrees,
+ * and one with another branch, or with indices in another order, parts. Last it compiles an image that adds two long
+ * numbers under a secret condition, and calls it with both values of the condition: the sum is stored or not, and the
+ * traces are equal to the last byte.
  */
 #include <stdio.h>
 #include <stdlib.h>
@@ -44,11 +46,18 @@ static uint8_t image[4 * TINESAGE_MOST_WORDS];
 static size_t image_length;
 static uint8_t cells[4 * TINESAGE_MOST_CELLS];
 static uint8_t trace[4 * TRACE_WORDS];
+/* the trace words that the last call recorded; what stands behind them is none of its entries */
+static uint64_t recorded;
+
+static void put_words(uint8_t *bytes, const uint32_t *words, size_t count)
+{
+    for (size_t i = 0; i < count; i++)
+        tinesage_put_word(bytes, i, words[i]);
+}
 
 static void take_image(const uint32_t *words, size_t count)
 {
-    for (size_t i = 0; i < count; i++)
-        tinesage_put_word(image, i, words[i]);
+    put_words(image, words, count);
     image_length = 4 * count;
 }
 
@@ -85,7 +94,7 @@ static void print_image(void)
     puts("");
 }
 
-static void print_trace(uint64_t count)
+static void print_trace(void)
 {
     static const char *const kinds[] = {
         [TINESAGE_TRACE_BRANCH] = "branch",     [TINESAGE_TRACE_LOOP_FROM] = "loop from",
@@ -94,7 +103,7 @@ static void print_trace(uint64_t count)
         [TINESAGE_TRACE_CALL] = "call",         [TINESAGE_TRACE_RETURN] = "return",
         [TINESAGE_TRACE_SHIFT_COUNT] = "shift count",
     };
-    for (size_t i = 0; i < count / 2; i++) {
+    for (size_t i = 0; i < recorded / 2; i++) {
         struct tinesage_trace_entry e = tinesage_read_entry(trace, i);
         printf("    %08X %08X  %s at word %u\n", (unsigned)tinesage_word(trace, 2 * i), (unsigned)e.value,
                e.kind < sizeof kinds / sizeof *kinds ? kinds[e.kind] : "other", (unsigned)e.place);
@@ -105,8 +114,7 @@ static void print_trace(uint64_t count)
 static void call(const char *title, const uint32_t *values, size_t count, size_t trace_words)
 {
     uint8_t arguments[4 * TINESAGE_MOST_ARGUMENTS], answer[TINESAGE_ANSWER];
-    for (size_t i = 0; i < count; i++)
-        tinesage_put_word(arguments, i, values[i]);
+    put_words(arguments, values, count);
     tinesage_call(image, image_length, cells, sizeof cells, 0, arguments, 4 * count, BUDGET, trace, 4 * trace_words,
                   answer, sizeof answer);
     struct tinesage_answer a = tinesage_read_answer(answer);
@@ -114,7 +122,18 @@ static void call(const char *title, const uint32_t *values, size_t count, size_t
         printf("  %s: %u in %u steps\n", title, (unsigned)a.result, (unsigned)a.steps);
     else
         printf("  %s: number %u at word %u\n", title, (unsigned)a.number, (unsigned)a.place);
-    print_trace(a.count);
+    recorded = a.count;
+    print_trace();
+}
+
+/* holds a probe's recording against the trace of the last call: for each entry kind * 2^28, then value */
+static void hold(const char *title, const uint32_t *words, size_t count)
+{
+    uint8_t probe[4 * TRACE_WORDS], answer[TINESAGE_ANSWER];
+    put_words(probe, words, count);
+    tinesage_compare(trace, 4 * (size_t)recorded, probe, 4 * count, answer, sizeof answer);
+    struct tinesage_answer a = tinesage_read_answer(answer);
+    printf("  %s: %s, entries equal: %u\n", title, a.result == TINESAGE_AGREE ? "agrees" : "parts", (unsigned)a.count);
 }
 
 static void call_with_7_and_6(void)
@@ -158,6 +177,10 @@ static void add_up(void)
     for (uint32_t i = 0; i < 4; i++)
         poke(0, i, 10 * (i + 1));
     call("cells 10, 20, 30, 40", NULL, 0, previewed_words());
+    hold("a probe's recording of indices 0, 1, 2, 3",
+         (const uint32_t[]){0x40000000, 0, 0x40000000, 1, 0x40000000, 2, 0x40000000, 3}, 8);
+    hold("a probe's recording of indices 0, 1, 3, 2",
+         (const uint32_t[]){0x40000000, 0, 0x40000000, 1, 0x40000000, 3, 0x40000000, 2}, 8);
 }
 
 /* a number of 64 bits in four cells */
@@ -204,6 +227,8 @@ int main(void)
     take_image(example, sizeof example / sizeof example[0]);
     load();
     call_with_7_and_6();
+    hold("a probe's recording of branch 0", (const uint32_t[]){0x10000000, 0}, 2);
+    hold("a probe's recording of branch 1", (const uint32_t[]){0x10000000, 1}, 2);
 
     printf("The same, compiled:");
     compile();

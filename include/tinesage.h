@@ -25,8 +25,8 @@
  *     refused    2    number   place   0        0       0
  *
  * `count` is two words, the high one first: the trace words recorded by a call or a preview, the
- * words written to `out`, else 0. A place is the number of an image word, from 0. docs/REFUSALS.md
- * has an example for each number.
+ * words written to `out`, the entries that a comparison found equal, else 0. A place is the number
+ * of an image word, from 0. docs/REFUSALS.md has an example for each number.
  */
 #ifndef TINESAGE_H
 #define TINESAGE_H
@@ -40,9 +40,9 @@ extern "C" {
 
 /* The version of this interface. A new major number may break a host, a new minor number adds. */
 #define TINESAGE_VERSION_MAJOR 2
-#define TINESAGE_VERSION_MINOR 3
+#define TINESAGE_VERSION_MINOR 4
 #define TINESAGE_VERSION_PATCH 0
-#define TINESAGE_VERSION "2.3.0"
+#define TINESAGE_VERSION "2.4.0"
 
 /* ---- sizes ---- */
 
@@ -118,6 +118,12 @@ enum tinesage_trace_kind {
     TINESAGE_TRACE_CALL = 7,       /* the number of the procedure called */
     TINESAGE_TRACE_RETURN = 8,     /* 0 */
     TINESAGE_TRACE_SHIFT_COUNT = 9 /* the count of a shift or rotation, before the modulo */
+};
+
+/* the result of a comparison: whether a probe's recording agrees with a trace */
+enum tinesage_comparison {
+    TINESAGE_PART = 0,
+    TINESAGE_AGREE = 1
 };
 
 /* ---- words, answers and trace entries in lent bytes ---- */
@@ -310,6 +316,26 @@ void tinesage_preview(const uint8_t *image, size_t image_len, const uint8_t *cel
                       size_t cells_len, uint32_t procedure, const uint8_t *arguments,
                       size_t arguments_len, uint32_t budget, uint8_t *trace, size_t trace_len,
                       uint8_t *answer, size_t answer_len);
+
+/*
+ * Holds a board probe's recording against a trace. The probe records the same call without this
+ * library; it sees branches, indices and calls, with their values and no places.
+ *
+ *   trace   The words that a call or preview has recorded and no more: of the slice lent to it the
+ *           first 4 * count bytes. What stands behind them would count as entries. Compared are the
+ *           entries of kinds 1, 4 and 7, their places removed. A lone last word is no entry.
+ *   probe   Entries of two words, kind * 2^28, then value, of these three kinds. A pair that begins
+ *           otherwise, with a place or another kind in its first word, and a lone last word are
+ *           each an entry equal to none.
+ *
+ * Done, always: result is TINESAGE_AGREE where both have the same entries in the same order, else
+ *   TINESAGE_PART; count is the number of entries before they part. Where one is longer, they part
+ *   at the end of the shorter. Where they agree, count is the number of all entries, so that an
+ *   agreement over none can be told. Steps are 0.
+ * Written: the answer.
+ */
+void tinesage_compare(const uint8_t *trace, size_t trace_len, const uint8_t *probe,
+                      size_t probe_len, uint8_t *answer, size_t answer_len);
 
 #ifdef __cplusplus
 }

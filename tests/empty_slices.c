@@ -75,7 +75,7 @@ static void take_image(const struct image *image)
 
 /* ---- slices ---- */
 
-enum slice { IMAGE, CELLS, OUT, ARGUMENTS, TRACE, ANSWER, SLICES };
+enum slice { IMAGE, CELLS, OUT, ARGUMENTS, TRACE, PROBE, ANSWER, SLICES };
 
 #define ROOM (4 * MOST_IMAGE)
 
@@ -89,7 +89,7 @@ struct lending {
 /* full lengths, but 0 for the slices of the set `empty`; these are NULL where `null` */
 static void lend(struct lending *l, unsigned empty, bool null)
 {
-    const size_t lengths[SLICES] = {image_length, 8, ROOM, 4, 64, TINESAGE_ANSWER};
+    const size_t lengths[SLICES] = {image_length, 8, ROOM, 4, 64, 64, TINESAGE_ANSWER};
     memset(l->bytes, 0x5A, sizeof l->bytes);
     memcpy(l->bytes[IMAGE], image_bytes, image_length);
     memset(l->bytes[ARGUMENTS], 0, 4);
@@ -155,6 +155,11 @@ static void preview(struct lending *l)
     tinesage_preview(LENT(IMAGE), LENT(CELLS), 0, LENT(ARGUMENTS), 1000, LENT(TRACE), LENT(ANSWER));
 }
 
+static void compare(struct lending *l)
+{
+    tinesage_compare(LENT(TRACE), LENT(PROBE), LENT(ANSWER));
+}
+
 static const struct function functions[] = {
     {"check", 1 << IMAGE | 1 << ANSWER, check},
     {"compile", 1 << IMAGE | 1 << OUT | 1 << ANSWER, compile},
@@ -165,6 +170,7 @@ static const struct function functions[] = {
     {"peek", 1 << IMAGE | 1 << CELLS | 1 << ANSWER, peek},
     {"call", 1 << IMAGE | 1 << CELLS | 1 << ARGUMENTS | 1 << TRACE | 1 << ANSWER, call},
     {"preview", 1 << IMAGE | 1 << CELLS | 1 << ARGUMENTS | 1 << TRACE | 1 << ANSWER, preview},
+    {"compare", 1 << TRACE | 1 << PROBE | 1 << ANSWER, compare},
 };
 
 /* ---- what is due ---- */
@@ -181,6 +187,8 @@ static uint32_t number_of_call(const struct image *image, unsigned empty)
 static uint32_t number_due(const struct function *f, const struct image *image, unsigned empty)
 {
     bool keeps_cells = (f->slices & 1 << CELLS) != 0;
+    if ((f->slices & 1 << IMAGE) == 0)
+        return 0;
     if ((empty & 1 << IMAGE) != 0)
         return keeps_cells && f->run != load ? TINESAGE_REFUSAL_NOT_LOADED : TINESAGE_REFUSAL_LENGTH;
     if (image->refusal != 0)

@@ -214,6 +214,48 @@ static void sized_trace_cases(void)
                                               called.count == previewed.count && tinesage_word(cells, 0) == 7);
 }
 
+/* a call in an if, and a return of cell 0: a branch, a call and an index, and a return, which a probe does not see */
+static const uint32_t seen_words[] = {0x10000102, 0x20000001, 0x30000000, 0x40000000, 0x50000000, 0x30000001,
+                                      0x40000000, 0x40000000, 0x50000002, 0x60020000, 0x90000001, 0x50000001,
+                                      0x60050000, 0x50000000, 0x60040000, 0xB0000000, 0x70000000};
+
+/* so many words of a recording against so many bytes of a trace */
+static struct tinesage_answer compared(const uint8_t *trace, size_t length, const uint32_t *recording, size_t words)
+{
+    uint8_t probe[8 * TINESAGE_TRACE_ENTRY], answer[TINESAGE_ANSWER];
+    for (size_t i = 0; i < words; i++)
+        tinesage_put_word(probe, i, recording[i]);
+    tinesage_compare(trace, length, probe, 4 * words, answer, sizeof answer);
+    return tinesage_read_answer(answer);
+}
+
+static int is_comparison(struct tinesage_answer a, uint32_t result, uint64_t entries)
+{
+    return a.status == TINESAGE_DONE && a.number == 0 && a.place == 0 && a.steps == 0 && a.result == result &&
+           a.count == entries;
+}
+
+/* a probe's recording beside the words that a call has recorded, and beside all that were lent to it */
+static void comparison_cases(void)
+{
+    static const uint32_t seen[] = {0x10000000, 1, 0x70000000, 0, 0x40000000, 0};
+    uint8_t cells[4] = {0}, trace[16 * TINESAGE_TRACE_ENTRY], answer[TINESAGE_ANSWER];
+    count = 0;
+    for (size_t i = 0; i < sizeof seen_words / sizeof seen_words[0]; i++)
+        push(seen_words[i]);
+    memset(trace, 0x40, sizeof trace);
+    tinesage_call(image, 4 * count, cells, sizeof cells, 1, NULL, 0, 3, trace, sizeof trace, answer, sizeof answer);
+    struct tinesage_answer called = tinesage_read_answer(answer);
+    size_t recorded = 4 * (size_t)called.count;
+    expect("four entries are recorded", called.status == TINESAGE_DONE && called.count == 8);
+    expect("a recording agrees", is_comparison(compared(trace, recorded, seen, 6), TINESAGE_AGREE, 3));
+    expect("one that ends before parts there", is_comparison(compared(trace, recorded, seen, 4), TINESAGE_PART, 2));
+    expect("what the slice holds behind the words recorded would count",
+           is_comparison(compared(trace, sizeof trace, seen, 6), TINESAGE_PART, 3));
+    expect("an agreement over no entry", is_comparison(compared(trace, 0, seen, 0), TINESAGE_AGREE, 0));
+    expect("and a parting at none", is_comparison(compared(trace, 0, seen, 6), TINESAGE_PART, 0));
+}
+
 int main(void)
 {
     word_cases();
@@ -224,6 +266,7 @@ int main(void)
     entry_length_cases();
     shift_count_case();
     sized_trace_cases();
+    comparison_cases();
     printf("%u passed, %u failed\n", passed, failed);
     return failed == 0 ? EXIT_SUCCESS : EXIT_FAILURE;
 }

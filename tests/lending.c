@@ -2,8 +2,9 @@
  * What each lent byte holds after a request: slices with spare words and odd lengths, slices that are too short for the
  * answer, refusals and stops. A preview is held to the call with the same arguments: the same bytes, and no cell. A
  * routine whose index is a loop variable plus a constant is held to sums that are computed here, and one whose secret ifs
- * share their variables to what the same ifs give in C.
- * Prints 'N passed, M failed' as its last line; a preview that writes to cells which it may only read ends the program
+ * share their variables to what the same ifs give in C. A probe's recording is compared with a trace at all their lengths
+ * and with each of their bits changed.
+ * Prints 'N passed, M failed' as its last line; a function that writes to bytes which it may only read ends the program
  * before that line.
  */
 #include <signal.h>
@@ -483,16 +484,23 @@ static void call_run(const struct run *r)
                   trace.lent, r->trace, answer.lent, answer_length);
 }
 
-/* cells in a page of their own, which is made read-only; as long as a page of the processor */
+/* bytes in a page of their own, which is made read-only; as long as a page of the processor */
 #define PAGE 4096
 static _Alignas(PAGE) uint8_t read_only[PAGE];
+
+static void set_read_only(const uint8_t *bytes, size_t length)
+{
+    int writable = mprotect(read_only, PAGE, PROT_READ | PROT_WRITE);
+    memcpy(read_only, bytes, length);
+    expect("the page cannot be written", writable == 0 && mprotect(read_only, PAGE, PROT_READ) == 0);
+}
 
 /* what the run under way is; a fault would else end the program without a word */
 static const char *under_way;
 
 static void on_fault(int signal)
 {
-    static const char text[] = "FAILED: a preview writes to its cells: ";
+    static const char text[] = "FAILED: bytes are written that may only be read: ";
     (void)signal;
     if (write(STDOUT_FILENO, text, sizeof text - 1) < 0 || write(STDOUT_FILENO, under_way, strlen(under_way)) < 0)
         _exit(2);
@@ -539,8 +547,7 @@ static void expect_called(const struct run *r)
 static void preview_cases(void)
 {
     reset(&cells);
-    memcpy(read_only, cells.lent, LONGEST);
-    expect("the page cannot be written", mprotect(read_only, PAGE, PROT_READ) == 0);
+    set_read_only(cells.lent, LONGEST);
     signal(SIGSEGV, on_fault);
     for (size_t i = 0; i < sizeof unused_statements / sizeof unused_statements[0]; i++) {
         make_divider(unused_statements[i]);
@@ -772,6 +779,153 @@ static void choice_cases(void)
     }
 }
 
+/* ---- a board probe's recording beside a trace ---- */
+
+/* entries of all kinds; the probe sees five of them, no two of which are equal */
+static const uint32_t traced_words[] = {
+    0x2000000F, 0, 0x10000011, 1, 0x4ABCDEF1, 0x89ABCDEF, 0x50000007, 8,  0x60000007, 3, 0x7000000D, 2,
+    0x80000006, 0, 0x3000000F, 9, 0x4000001E, 16,         0x90000014, 33, 0x1FFFFFFF, 0, 0x8000001D, 0,
+};
+static const uint32_t probe_words[] = {
+    0x10000000, 1, 0x40000000, 0x89ABCDEF, 0x70000000, 2, 0x40000000, 16, 0x10000000, 0,
+};
+
+#define TRACED (sizeof traced_words)
+#define PROBED (sizeof probe_words)
+
+/* words that are lent and have to stay */
+static void lend_words(struct watched *w, const uint32_t *words, size_t length)
+{
+    put_words(w->lent, words, length);
+    put_words(w->expected, words, length);
+}
+
+/* the slice for results holds the recording */
+static void reset_recording(void)
+{
+    reset_all();
+    lend_words(&trace, traced_words, TRACED);
+    lend_words(&out, probe_words, PROBED);
+}
+
+/* only the answer is written */
+static void expect_compared(const char *what, size_t traced, size_t probed, uint32_t result, size_t entries)
+{
+    tinesage_compare(trace.lent, traced, out.lent, probed, answer.lent, answer_length);
+    if (answer_length >= TINESAGE_ANSWER)
+        expect_answer(&answer, (const uint32_t[7]){0, 0, 0, result, 0, 0, (uint32_t)entries});
+    expect_all(what);
+}
+
+static int is_seen(uint32_t word)
+{
+    return word >> 28 == 1 || word >> 28 == 4 || word >> 28 == 7;
+}
+
+/* how many entries that a probe sees stand in so many bytes of the trace; a lone word is none */
+static size_t seen_in(size_t traced)
+{
+    size_t seen = 0;
+    for (size_t i = 0; i < traced / TINESAGE_TRACE_ENTRY; i++)
+        seen += is_seen(traced_words[2 * i]) ? 1 : 0;
+    return seen;
+}
+
+/* a lone word of the recording is an entry, so that they part; left-over bytes are nothing */
+static void compared_length_cases(void)
+{
+    for (size_t traced = 0; traced < TRACED + 4; traced++) {
+        for (size_t probed = 0; probed < PROBED + 4; probed++) {
+            size_t ours = seen_in(traced), theirs = probed / TINESAGE_TRACE_ENTRY;
+            int agree = ours == theirs && probed / 4 % 2 == 0;
+            reset_recording();
+            expect_compared("compare: both at each length", traced, probed, agree ? TINESAGE_AGREE : TINESAGE_PART,
+                            ours < theirs ? ours : theirs);
+        }
+    }
+}
+
+static void flip(struct watched *w, size_t word, uint32_t mask)
+{
+    uint32_t flipped = tinesage_word(w->lent, word) ^ mask;
+    tinesage_put_word(w->lent, word, flipped);
+    tinesage_put_word(w->expected, word, flipped);
+}
+
+/* each bit of the recording counts */
+static void compared_probe_bit_cases(void)
+{
+    for (size_t bit = 0; bit < 8 * PROBED; bit++) {
+        reset_recording();
+        flip(&out, bit / 32, 1u << bit % 32);
+        expect_compared("compare: a bit of the recording", TRACED, PROBED, TINESAGE_PART, bit / 64);
+    }
+}
+
+/* of the trace the bits count that make an entry one that the probe sees or does not, and the values that it sees */
+static void compared_trace_bit_cases(void)
+{
+    for (size_t bit = 0; bit < 8 * TRACED; bit++) {
+        size_t entry = bit / 64;
+        uint32_t mask = 1u << bit % 32, first = traced_words[2 * entry];
+        int in_first = bit % 64 < 32;
+        int part = in_first ? is_seen(first) != is_seen(first ^ mask) : is_seen(first);
+        reset_recording();
+        flip(&trace, bit / 32, mask);
+        expect_compared("compare: a bit of the trace", TRACED, PROBED, part ? TINESAGE_PART : TINESAGE_AGREE,
+                        seen_in(part ? TINESAGE_TRACE_ENTRY * entry : TRACED));
+    }
+}
+
+/* one entry on each side, of each number that four bits hold: three are kinds that the probe sees */
+static void compared_kind_cases(void)
+{
+    for (uint32_t kind = 0; kind < 16; kind++) {
+        const uint32_t traced[] = {kind << 28 | 5, 3}, probed[] = {kind << 28, 3};
+        reset_all();
+        lend_words(&trace, traced, sizeof traced);
+        lend_words(&out, probed, sizeof probed);
+        expect_compared("compare: one entry of a kind", 8, 8, is_seen(traced[0]) ? TINESAGE_AGREE : TINESAGE_PART,
+                        is_seen(traced[0]) ? 1 : 0);
+    }
+}
+
+static void compared_answer_cases(void)
+{
+    for (size_t length = 0; length < 2 * TINESAGE_ANSWER; length++) {
+        reset_recording();
+        answer_length = length;
+        expect_compared("compare: the answer's slice, they agree", TRACED, PROBED, TINESAGE_AGREE, 5);
+        reset_recording();
+        answer_length = length;
+        expect_compared("compare: the answer's slice, they part", TRACED, 0, TINESAGE_PART, 0);
+    }
+}
+
+/* trace and recording in bytes that cannot be written */
+static void compared_read_only_case(void)
+{
+    uint8_t both[TRACED + PROBED];
+    put_words(both, traced_words, TRACED);
+    put_words(both + TRACED, probe_words, PROBED);
+    set_read_only(both, sizeof both);
+    under_way = "compare\n";
+    reset_all();
+    tinesage_compare(read_only, TRACED, read_only + TRACED, PROBED, answer.lent, answer_length);
+    expect_answer(&answer, (const uint32_t[7]){0, 0, 0, TINESAGE_AGREE, 0, 0, 5});
+    expect_all("compare: bytes that cannot be written");
+}
+
+static void compare_cases(void)
+{
+    compared_length_cases();
+    compared_probe_bit_cases();
+    compared_trace_bit_cases();
+    compared_kind_cases();
+    compared_answer_cases();
+    compared_read_only_case();
+}
+
 int main(void)
 {
     setvbuf(stdout, NULL, _IOLBF, 0);
@@ -792,6 +946,7 @@ int main(void)
     carry_cases();
     bounded_cases();
     choice_cases();
+    compare_cases();
     printf("%u passed, %u failed\n", passed, failed);
     return failed == 0 ? EXIT_SUCCESS : EXIT_FAILURE;
 }

@@ -2,9 +2,10 @@
  * The native stack that each function of the library needs. Each runs on a thread whose stack was filled with a pattern;
  * what it needed is the distance from the frame that calls it to the deepest byte that no longer holds the pattern.
  * The images nest as deep as the levels allow: ifs and fors around a statement, operators below it, and 32 procedures
- * that each call the one below from there. Prints a table of the largest need of each function, and 'N passed, M failed'
- * as its last line, counted in bounds: one fails where a need is over the bound that docs/STACK.md states. A run with
- * another answer than its image is made for fails too.
+ * that each call the one below from there. A comparison takes no image: it is measured with recordings of many lengths.
+ * Prints a table of the largest need of each function, and 'N passed, M failed' as its last line, counted in bounds: one
+ * fails where a need is over the bound that docs/STACK.md states. A run with another answer than its image or recording
+ * is made for fails too.
  */
 #include <pthread.h>
 #include <stdbool.h>
@@ -289,15 +290,17 @@ static bool admitted(const struct shape *s)
 
 /* ---- the functions, each on a thread of its own ---- */
 
-enum function { CHECK, COMPILE, DESCRIBE, LOAD, CLEAR, POKE, PEEK, CALLED, PREVIEWED, FUNCTIONS };
-static const char *const function_names[] = {"tinesage_check", "tinesage_compile", "tinesage_describe",
-                                             "tinesage_load",  "tinesage_clear",   "tinesage_poke",
-                                             "tinesage_peek",  "tinesage_call",    "tinesage_preview"};
+/* all before the last take an image */
+enum function { CHECK, COMPILE, DESCRIBE, LOAD, CLEAR, POKE, PEEK, CALLED, PREVIEWED, COMPARED, FUNCTIONS };
+static const char *const function_names[] = {"tinesage_check", "tinesage_compile", "tinesage_describe", "tinesage_load",
+                                             "tinesage_clear", "tinesage_poke",    "tinesage_peek",     "tinesage_call",
+                                             "tinesage_preview", "tinesage_compare"};
 
 /* what docs/STACK.md states, in bytes */
 static const size_t bounds[FUNCTIONS] = {[CHECK] = 112 << 10, [COMPILE] = 192 << 10, [DESCRIBE] = 112 << 10,
                                          [LOAD] = 112 << 10,  [CLEAR] = 112 << 10,   [POKE] = 112 << 10,
-                                         [PEEK] = 112 << 10,  [CALLED] = 384 << 10,  [PREVIEWED] = 384 << 10};
+                                         [PEEK] = 112 << 10,  [CALLED] = 384 << 10,  [PREVIEWED] = 384 << 10,
+                                         [COMPARED] = 4 << 10};
 
 /* the same for images of at most SHORT words; the compiler has none, since its result may be long */
 #define SHORT 512
@@ -309,6 +312,7 @@ struct job {
     enum function function;
     const struct image *image;
     uint32_t procedure, parameters;
+    size_t entries; /* of a recording */
     const uint8_t *top;
     uint8_t answer[TINESAGE_ANSWER];
 };
@@ -330,6 +334,10 @@ static void *run(void *given)
     case CLEAR: tinesage_clear(image, length, cells, sizeof cells, job->answer, answer_len); break;
     case POKE: tinesage_poke(image, length, cells, sizeof cells, 1, 0, 0, job->answer, answer_len); break;
     case PEEK: tinesage_peek(image, length, cells, sizeof cells, 1, 0, job->answer, answer_len); break;
+    case COMPARED:
+        tinesage_compare(trace, 2 * TINESAGE_TRACE_ENTRY * job->entries, out, TINESAGE_TRACE_ENTRY * job->entries,
+                         job->answer, answer_len);
+        break;
     case CALLED:
         tinesage_call(image, length, cells, sizeof cells, job->procedure, arguments, 4 * job->parameters, 1000000,
                       trace, sizeof trace, job->answer, answer_len);
@@ -418,7 +426,7 @@ static bool nine_fors(const struct shape *s)
 
 static void measure(enum function function, const struct shape *s, const struct image *image)
 {
-    struct job job = {function, image, called(s), parameters(s), NULL, {0}};
+    struct job job = {function, image, called(s), parameters(s), 0, NULL, {0}};
     size_t bytes = need(&job);
     if (!expected(&job, s)) {
         struct tinesage_answer a = tinesage_read_answer(job.answer);
@@ -453,6 +461,45 @@ static void measure_all(const struct shape *s)
     /* these check the image, and what they do after it is the same for all */
     for (int f = DESCRIBE; f <= PEEK && s->leaf == RETURN; f++)
         measure((enum function)f, s, &image);
+}
+
+#define MOST_ENTRIES (sizeof out / TINESAGE_TRACE_ENTRY)
+
+/* a trace whose every second entry is an index, and a recording of these */
+static void make_recording(void)
+{
+    for (uint32_t i = 0; i < MOST_ENTRIES; i++) {
+        const uint32_t traced[4] = {0x80000000 | i, 0, 0x40000000 | i, i}, probed[2] = {0x40000000, i};
+        for (size_t k = 0; k < 4; k++)
+            tinesage_put_word(trace, 4 * i + k, traced[k]);
+        for (size_t k = 0; k < 2; k++)
+            tinesage_put_word(out, 2 * i + k, probed[k]);
+    }
+}
+
+/* so many entries agree */
+static void measure_comparison(size_t entries)
+{
+    static const struct image none;
+    struct job job = {COMPARED, &none, 0, 0, entries, NULL, {0}};
+    size_t bytes = need(&job);
+    struct tinesage_answer a = tinesage_read_answer(job.answer);
+    if (a.result != TINESAGE_AGREE || a.count != entries) {
+        printf("FAILED: %s of %zu entries answers %u, %u\n", function_names[COMPARED], entries, (unsigned)a.result,
+               (unsigned)a.count);
+        failed++;
+        return;
+    }
+    runs++;
+    keep(&largest[COMPARED], bytes, &(struct shape){0});
+}
+
+static void measure_comparisons(void)
+{
+    make_recording();
+    measure_comparison(0);
+    for (size_t entries = 1; entries <= MOST_ENTRIES; entries *= 2)
+        measure_comparison(entries);
 }
 
 static void measure_shapes(uint32_t form, bool longest_image)
@@ -492,19 +539,23 @@ int main(void)
         measure_shapes(form, false);
         measure_shapes(form, true);
     }
+    measure_comparisons();
     puts("| function | of | image | bytes |\n| --- | --- | --- | ---: |");
-    for (int f = CHECK; f < FUNCTIONS; f++) {
+    for (int f = CHECK; f < COMPARED; f++) {
         print_row("all images", (enum function)f, &largest[f]);
         print_row("images in source form", (enum function)f, &source[f]);
         print_row("images of at most 512 words", (enum function)f, &shorter[f]);
         print_row("images of the most words", (enum function)f, &longest[f]);
         print_row("nine fors", (enum function)f, &nine[f]);
     }
-    for (int f = CHECK; f < FUNCTIONS; f++) {
+    printf("| %s | recordings of up to %zu entries | | %zu |\n", function_names[COMPARED], MOST_ENTRIES,
+           largest[COMPARED].bytes);
+    for (int f = CHECK; f < COMPARED; f++) {
         judge("all images", (enum function)f, &largest[f], bounds[f]);
         if (f != COMPILE)
             judge("short images", (enum function)f, &shorter[f], short_bounds[f]);
     }
+    judge("all recordings", COMPARED, &largest[COMPARED], bounds[COMPARED]);
     free(stack);
     printf("%u runs\n", runs);
     printf("%u passed, %u failed\n", passed, failed);

@@ -16,9 +16,11 @@ use crate::operators::Sort;
 use crate::program::{program, Shape, Slip};
 use crate::protocol::{push_words, Driver};
 use crate::random::Random;
+use crate::recordings::{is_seen, recording, Recording};
 use crate::words;
 
-/// Prints request lines until there are at least `count`.
+/// Prints request lines until there are at least `count`, those about a probe's
+/// recordings aside.
 pub fn generate(seed: u64, count: u64, output: impl Write) -> io::Result<()> {
     let (random, driver) = (Random::new(seed), Driver::new());
     let mut generator = Generator { random, driver, output, lines: 0 };
@@ -462,6 +464,27 @@ impl<W: Write> Generator<W> {
                 self.send(format!("{request} {procedure} {budget} {capacity}{arguments}"))?;
             }
         }
+        self.recordings(&answer)
+    }
+
+    /// Recordings of a board probe held against the trace of a call or preview,
+    /// mostly of one that a probe sees something of. The comments are for
+    /// whoever counts.
+    fn recordings(&mut self, answer: &str) -> io::Result<()> {
+        let Some((_, trace)) = steps_and_trace(answer) else { return Ok(()) };
+        let trace = parsed_words(&trace);
+        let percent = if is_seen(&trace) { 15 } else { 2 };
+        if !self.random.chance(percent) {
+            return Ok(());
+        }
+        let lines = self.lines;
+        for _ in 0..self.random.between(1, 3) {
+            let Recording { what, trace, probe } = recording(&mut self.random, &trace);
+            self.send(format!("# probe: {what}"))?;
+            self.send(agree_line(&trace, &probe))?;
+        }
+        // Not counted, so that they take no line from the other requests.
+        self.lines = lines;
         Ok(())
     }
 
@@ -523,12 +546,24 @@ impl<W: Write> Generator<W> {
     }
 }
 
+fn agree_line(trace: &[u32], probe: &[u32]) -> String {
+    let mut line = "agree".to_string();
+    push_words(&mut line, trace);
+    line.push_str(" |");
+    push_words(&mut line, probe);
+    line
+}
+
 /// The words of the result in the answer to a compile; None for a refusal.
 fn listed_words(answer: &str) -> Option<Vec<u32>> {
-    let listed = answer.strip_prefix("ok ")?;
+    let listed: Vec<&str> = answer.strip_prefix("ok ")?.split(' ').collect();
+    Some(parsed_words(&listed))
+}
+
+fn parsed_words(listed: &[&str]) -> Vec<u32> {
     let parsed: Result<Vec<u32>, _> =
-        listed.split(' ').map(|word| u32::from_str_radix(word, 16)).collect();
-    Some(parsed.expect("the driver lists words"))
+        listed.iter().map(|word| u32::from_str_radix(word, 16)).collect();
+    parsed.expect("the driver lists words")
 }
 
 /// The steps and the trace words in the answer to a call or preview.

@@ -52,7 +52,7 @@ struct Stopped;
 
 /// The trace entry kinds.
 #[derive(Clone, Copy)]
-enum Entry {
+pub enum Entry {
     Branch = 1,
     LoopFrom = 2,
     LoopTo = 3,

@@ -8,6 +8,7 @@ use crate::compile::compile;
 use crate::describe::describe;
 use crate::interpreter::Outcome;
 use crate::machine::Machine;
+use crate::probe::parting;
 use crate::refusal::Refusal;
 use crate::words;
 
@@ -74,6 +75,7 @@ impl Driver {
                 Some(plain(self.machine.load(&image)))
             }
             "call" | "preview" => self.run(name, &fields),
+            "agree" => agree(&fields),
             _ => self.cell_request(name, &fields),
         }
     }
@@ -130,6 +132,17 @@ impl Driver {
     }
 }
 
+/// A trace and a probe's recording, in words with a bar between them. It asks
+/// for no machine.
+fn agree(fields: &[&str]) -> Option<String> {
+    let bar = fields.iter().position(|field| *field == "|")?;
+    let (trace, probe) = (parse_words(&fields[..bar])?, parse_words(&fields[bar + 1..])?);
+    Some(match parting(&trace, &probe) {
+        None => "ok agree".to_string(),
+        Some(entries) => format!("ok part {entries}"),
+    })
+}
+
 fn outcome_line(outcome: &Outcome) -> String {
     let mut answer = match outcome.end {
         Ok(result) => format!("ok {result}"),
@@ -176,11 +189,12 @@ fn parse_image(name: &str, fields: &[&str]) -> Option<Vec<u8>> {
         (true, []) => Some(Vec::new()),
         (true, [bytes]) => parse_bytes(bytes),
         (true, _) => None,
-        (false, _) => {
-            let parsed: Option<Vec<u32>> = fields.iter().map(|field| parse_word(field)).collect();
-            parsed.map(|image| words::to_bytes(&image))
-        }
+        (false, _) => parse_words(fields).map(|image| words::to_bytes(&image)),
     }
+}
+
+fn parse_words(fields: &[&str]) -> Option<Vec<u32>> {
+    fields.iter().map(|field| parse_word(field)).collect()
 }
 
 fn parse_word(field: &str) -> Option<u32> {

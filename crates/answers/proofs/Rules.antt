@@ -5,13 +5,15 @@ use Prim.Native.Nat.{ℕ, _≤_, _<_}
 use borrow.Author.Tests.{le-leb, lt-leb}
 use lib.ListN.{length, drop}
 use Rattle.definitions.specs.Bytes.{bytesOf, lent}
-use Rattle.definitions.specs.Host.{layout, answerWords, checkedWords, compiledWords, answerBytes}
+use Rattle.definitions.specs.Host.{layout, answerWords, checkedWords, compiledWords, comparedWords, answerBytes}
 use Rattle.definitions.specs.declared.Answer.{Answer}
 use Rattle.definitions.specs.declared.Answer.the-variants.{Done, Stopped, Refused}
 use Rattle.definitions.specs.declared.Checked.{Checked}
 use Rattle.definitions.specs.declared.Checked.the-variants.{Accepted, Refused as CheckRefused}
 use Rattle.definitions.specs.declared.Compiled.{Compiled}
 use Rattle.definitions.specs.declared.Compiled.the-variants.{Written, Refused as CompileRefused}
+use Rattle.definitions.specs.declared.Compared.{Compared}
+use Rattle.definitions.specs.declared.Compared.the-variants.{Agree, Part}
 use Rattle.results.specs.Named.{answerPlace, checkedPlace, compiledPlace}
 
 module _ (slice : List ℕ) where
@@ -57,6 +59,14 @@ module _ (slice : List ℕ) where
     unfolding compiledWords
     put-compile-refused a k p e s = rw s e
 
+    pub put-agree : (a : Compared) (n : ℕ) → after ≡ answerBytes slice (layout 0 0 0 1 0 n) → a ≡ Agree n → after ≡ answerBytes slice (comparedWords a)
+    unfolding comparedWords
+    put-agree a n e s = rw s e
+
+    pub put-part : (a : Compared) (n : ℕ) → after ≡ answerBytes slice (layout 0 0 0 0 0 n) → a ≡ Part n → after ≡ answerBytes slice (comparedWords a)
+    unfolding comparedWords
+    put-part a n e s = rw s e
+
 -- the place of the variant that was matched fits a word
 pub stopped-fits : (a : Answer) (k p z n : ℕ) → answerPlace a < 4294967296 → a ≡ Stopped k p z n → p < 4294967296
 stopped-fits a k p z n h s = rw s at h
@@ -75,3 +85,5 @@ pub ruleset answer·rules = (put-done, put-stopped, put-refused, stopped-fits, r
 pub ruleset checked·rules = (put-accepted, put-check-refused, check-refused-fits)
 
 pub ruleset compiled·rules = (put-written, put-compile-refused, compile-refused-fits)
+
+pub ruleset compared·rules = (put-agree, put-part)

@@ -1,7 +1,7 @@
 // The answers in the bytes that a C host lends for them: seven words, most significant byte first, one layout for every answer.
 ghost use mathlib.Core.Path.{_≡_};
 ghost use Prim.Native.Nat.{_<_};
-ghost use Rattle.definitions.specs.Host.{layout, answerWords, checkedWords, compiledWords, answerBytes};
+ghost use Rattle.definitions.specs.Host.{layout, answerWords, checkedWords, compiledWords, comparedWords, answerBytes};
 ghost use Rattle.results.specs.Named.{answerPlace, checkedPlace, compiledPlace};
 
 // A slice that is too short for the seven words stays as it is.
@@ -90,5 +90,15 @@ pub fn put_compiled(slice: &mut [u8], answer: definitions::Compiled)
             0,
             0,
         ),
+    }
+}
+
+// The answer of a comparison: result 1 where they agree.
+pub fn put_compared(slice: &mut [u8], answer: definitions::Compared)
+    ensures { λ _. ⌜ now (slice .exit) ≡ answerBytes (now (slice .entry)) (comparedWords answer) ⌝ }
+{
+    match answer {
+        definitions::Compared::Agree(count) => put_layout(slice, 0, 0, 0, 1, 0, count),
+        definitions::Compared::Part(count) => put_layout(slice, 0, 0, 0, 0, 0, count),
     }
 }

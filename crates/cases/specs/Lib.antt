@@ -4,3 +4,4 @@ pub mod Descriptions
 pub mod Previews
 pub mod Indices
 pub mod Numbering
+pub mod Comparisons

@@ -14,9 +14,12 @@ use Rattle.definitions.specs.declared.Checked.{Checked}
 use Rattle.definitions.specs.declared.Checked.the-variants.{Accepted, Refused as CheckRefused}
 use Rattle.definitions.specs.declared.Compiled.{Compiled}
 use Rattle.definitions.specs.declared.Compiled.the-variants.{Written, Refused as CompileRefused}
+use Rattle.definitions.specs.declared.Compared.{Compared}
+use Rattle.definitions.specs.declared.Compared.the-variants.{Agree, Part}
 use Rattle.definitions.specs.Checking.{checked}
 use Rattle.definitions.specs.Compiling.{compiled}
 use Rattle.definitions.specs.Describing.{described}
+use Rattle.definitions.specs.Comparing.{compared}
 use Rattle.definitions.specs.Requests.{Served, Called, load, clear, poke, peek, call, preview}
 
 -- whether bytes are whole words: "not whole words" is 1 for an image
@@ -66,8 +69,11 @@ describeBytes image out =
     let r : Compiled × List ℕ = described (wholeWords image) (wordsOf image) (wordsOf out) in
     (r .0, lent out (r .1))
 
+unfoldable pub compareBytes : List ℕ → List ℕ → Compared
+compareBytes trace probe = compared (wordsOf trace) (wordsOf probe)
+
 -- One layout for every answer: 0 done, 1 stopped, 2 refused; number; place; result; steps; the number of trace words
--- recorded, or of words written to the output, as two words, the high one first.
+-- recorded, of words written to the output, or of entries that are equal, as two words, the high one first.
 abbrev pub layout : ℕ → ℕ → ℕ → ℕ → ℕ → ℕ → List ℕ
 layout status number place result steps count =
     status ∷ number ∷ place ∷ result ∷ steps ∷ count / 2 ^ 32 ∷ count % 2 ^ 32 ∷ []
@@ -84,6 +90,11 @@ checkedWords (CheckRefused k p) = layout 2 k p 0 0 0
 unfoldable pub compiledWords : Compiled → List ℕ
 compiledWords (Written n) = layout 0 0 0 0 0 n
 compiledWords (CompileRefused k p) = layout 2 k p 0 0 0
+
+-- a comparison is never refused: its result is 1 where they agree, else 0
+unfoldable pub comparedWords : Compared → List ℕ
+comparedWords (Agree n) = layout 0 0 0 1 0 n
+comparedWords (Part n) = layout 0 0 0 0 0 n
 
 -- what the slice lent for the answer holds afterwards: the seven words where there is room for them, else what it held
 unfoldable pub answerBytes : List ℕ → List ℕ → List ℕ

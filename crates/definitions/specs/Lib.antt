@@ -13,4 +13,5 @@ pub mod Compiling
 pub mod Describing
 pub mod Running
 pub mod Requests
+pub mod Comparing
 pub mod Host

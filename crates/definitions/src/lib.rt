@@ -33,3 +33,11 @@ pub enum Answer {
     // a refusal: document 01's number and place
     Refused(u32, usize),
 }
+
+// A trace beside a probe's recording of the same calls.
+pub enum Compared {
+    // they agree: the number of their entries
+    Agree(usize),
+    // they do not: the number of entries before they part
+    Part(usize),
+}

@@ -1,5 +1,6 @@
 pub mod Admitted
 pub mod Cells
+pub mod Comparisons
 pub mod CompiledLocals
 pub mod Deeper
 pub mod ExpressionInversion

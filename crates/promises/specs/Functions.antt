@@ -12,9 +12,11 @@ use Rattle.definitions.specs.declared.Checked.{Checked}
 use Rattle.definitions.specs.declared.Checked.the-variants.{Accepted, Refused as CheckRefused}
 use Rattle.definitions.specs.declared.Compiled.{Compiled}
 use Rattle.definitions.specs.declared.Compiled.the-variants.{Written, Refused as CompileRefused}
+use Rattle.definitions.specs.declared.Compared.{Compared}
+use Rattle.definitions.specs.declared.Compared.the-variants.{Agree, Part}
 use Rattle.definitions.specs.Requests.{Called}
-use Rattle.definitions.specs.Host.{answerWords, checkedWords, compiledWords, answerBytes}
-use Rattle.statements.specs.Statements.{answerOf, answerIn, checkedOf, checkedIn, compiledOf, compiledIn}
+use Rattle.definitions.specs.Host.{answerWords, checkedWords, compiledWords, comparedWords, answerBytes}
+use Rattle.statements.specs.Statements.{answerOf, answerIn, checkedOf, checkedIn, compiledOf, compiledIn, comparedOf, comparedIn}
 use Rattle.laws.specs.WordsOfBytes.{words-first}
 
 -- a number in two words, the high one first
@@ -42,6 +44,11 @@ module _ (answer answer′ : List ℕ) (room : 28 ≤ length answer) where
   unfolding compiledWords answerOf compiledOf
   compiled-as (Written n) e = ap compiledOf (written (compiledWords (Written n)) e) ∙ ap Written (two-words n)
   compiled-as (CompileRefused k p) e = ap compiledOf (written (compiledWords (CompileRefused k p)) e)
+
+  pub compare-read : (x : Compared) → answer′ ≡ answerBytes answer (comparedWords x) → comparedIn answer′ ≡ x
+  unfolding comparedWords answerOf comparedOf
+  compare-read (Agree n) e = ap comparedOf (written (comparedWords (Agree n)) e) ∙ ap Agree (two-words n)
+  compare-read (Part n) e = ap comparedOf (written (comparedWords (Part n)) e) ∙ ap Part (two-words n)
 
   -- with what the lent slices hold afterwards
   pub compile-read : (x : Compiled × List ℕ) (out′ : List ℕ) → out′ ≡ x .1 → answer′ ≡ answerBytes answer (compiledWords (x .0))

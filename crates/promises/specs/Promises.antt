@@ -2,7 +2,7 @@
 -- (crates/definitions/specs), what stands in crates/statements/specs, and documents 01 and 02 beside them; the proofs stand elsewhere, and are cited at
 -- the end of each section. Every function named here is a request of the definitions on lent bytes (Host). All of them are total, so each gives an
 -- answer; `Bytes` says that what is lent are bytes. Assumes nothing.
-use Prim.Native.Nat.{ℕ, suc, _+_, _*_, _-_, _≤_, _<_}
+use Prim.Native.Nat.{ℕ, suc, _+_, _*_, _-_, _%_, _≤_, _<_}
 use mathlib.Core.Bool.{true}
 use mathlib.Core.List.{List, [], _∷_, _++_}
 use mathlib.Core.Logic.{_⊎_}
@@ -14,6 +14,7 @@ use Rattle.definitions.specs.declared.Answer.the-variants.{Done, Stopped, Refus
 use Rattle.definitions.specs.declared.Checked.the-variants.{Accepted, Refused as CheckRefused}
 use Rattle.definitions.specs.declared.Compiled.{Compiled}
 use Rattle.definitions.specs.declared.ConstantLoop.{ConstantLoop}
+use Rattle.definitions.specs.declared.Compared.the-variants.{Agree, Part}
 use Rattle.definitions.specs.declared.Compiled.the-variants.{Written, Refused as CompileRefused}
 use Rattle.definitions.specs.Bytes.{Bytes, wordAt, wordsOf, lent}
 use Rattle.definitions.specs.Image.{largestLevel, Expression, constant, variable, binary, Image, cellCount, baseOf}
@@ -27,13 +28,15 @@ use Rattle.definitions.specs.Operators.{shifts, applyBinary}
 use Rattle.definitions.specs.Running.{traceWords, value, stop, operated}
 use Rattle.definitions.specs.Requests.{Called}
 use Rattle.definitions.specs.Host.{wholeWords, checkBytes, compileBytes, loadBytes, clearBytes, pokeBytes, peekBytes}
-use Rattle.definitions.specs.Host.{callBytes, previewBytes, describeBytes}
+use Rattle.definitions.specs.Comparing.{Entry, traceEntries, probeEntries}
+use Rattle.definitions.specs.Host.{callBytes, previewBytes, describeBytes, compareBytes}
 use Rattle.statements.specs.Statements.{Iff, Exactly, AdmissibleBytes, Among, RefusesBytes, NotLoaded, Loadable, NotReady, NoCell}
 use Rattle.statements.specs.Statements.{WithCell, NotCalled, Callable, cleared, stored, ResultOrStop, stepsOf, recordedCount}
 use Rattle.statements.specs.Statements.{recordedIn, SameOrSpent, SameOrFilled, BeyondArray, DivisorZero, NotWritten}
 use Rattle.statements.specs.Statements.{Compilable, SameMeaning, Machine, empty, Request, turn, responses, AlikeLists, SameTurns}
-use Rattle.statements.specs.Statements.{answerIn, checkedIn, compiledIn}
-use Rattle.tinesage.specs.Contracts.{Checks, Compiles, Describes, Loads, Clears, Pokes, Peeks, Calls, Previews}
+use Rattle.statements.specs.Statements.{answerIn, checkedIn, compiledIn, comparedIn}
+use Rattle.statements.specs.Comparisons.{TraceShows, ProbeRecords, PartAfter}
+use Rattle.tinesage.specs.Contracts.{Checks, Compiles, Describes, Loads, Clears, Pokes, Peeks, Calls, Previews, Compares}
 use Rattle.statements.specs.Limits.{FitsImage}
 use Rattle.statements.specs.FormerLimits.{readImageBy, formerReadImage, From, Kept, WithinLimits, SameAnswers}
 use Rattle.statements.specs.FormerAnswers.{AnswersAs}
@@ -42,6 +45,7 @@ use Rattle.statements.specs.FormerNumbering.{formerCompileBytes}
 use Rattle.statements.specs.FormerTraces.{callBytesBy, formerCallBytes, noShift, OnlyEntriesAdded}
 use Rattle.laws.specs.FormerLevels.{by-image, limits-keep-answers, one-level-more, same-answers}
 use Rattle.laws.specs.Previews.{preview-is-call-on-a-copy, preview-turn}
+use Rattle.laws.specs.Comparisons.{kept-exactly, recorded-exactly, agree-exactly, parted-there}
 use Rattle.readback.specs.Whole.{image-compiled-fits}
 use Rattle.results.specs.WithinLimits.{within-limits}
 use Rattle.results.specs.IndicesAdded.{variable-and-constant, constant-and-variable, bounded-before-bounded-now, only-sums-added}
@@ -57,11 +61,11 @@ use Rattle.results.specs.Exactly.{clear-unchanged, poke-unchanged, peek-unchang
 use Rattle.results.specs.Exactly.{preview-refused-exactly, preview-ends, preview-leaves}
 use Rattle.results.specs.Written.{written-or-not, compile-refused-exactly, compile-is-written, compile-unchanged}
 use Rattle.results.specs.StoppedExactly.{two-budgets, two-traces, steps-within, words-within, budget-reached, trace-filled}
-use Rattle.results.specs.StoppedExactly.{index-stops, divisor-stops}
+use Rattle.results.specs.StoppedExactly.{index-stops, divisor-stops, whole-entries}
 use Rattle.results.specs.PreviewedTraces.{trace-enough}
 use Rattle.properties.specs.CompiledBytes.{target-accepted, target-tree, target-loads, same-meaning}
 use Rattle.secrecy.specs.Secrecy.{secrecy, served-to-the-end}
-use Rattle.promises.specs.Functions.{check-read, compile-read, request-read, call-read}
+use Rattle.promises.specs.Functions.{check-read, compile-read, request-read, call-read, compare-read}
 use Rattle.statements.specs.Statements
 
 -- ======== Property 1
@@ -441,6 +445,37 @@ wish-8 =
       fifteen-by-length = λ image out tree a s. fifteen-by-length image tree a s out;
     }
 
+-- ======== Document 02, wish 13
+-- "The board probe records the same calls without us, but sees only branches, indices and calls, with their values and no places. Hold its recording
+-- against the machine's trace: they agree exactly when the trace's entries of kinds 1, 4 and 7, places removed, are the probe's entries in order.
+-- Otherwise answer the number of entries before they part. Where one is longer, they part at the end of the shorter. A probe entry is two words,
+-- kind × 2^28, then value. A lone last word, or a pair begun otherwise, is an entry equal to none."
+
+pub record Wish13 : Type 0 where
+  -- The entries of a trace and of a recording are those that the wish names, said of their words (statements/specs/Comparisons.antt); and no others.
+  pub kept-exactly : (trace : List ℕ) (es : List Entry) → Iff (traceEntries trace ≡ es) (TraceShows trace es)
+  pub recorded-exactly : (probe : List ℕ) (es : List Entry) → Iff (probeEntries probe ≡ es) (ProbeRecords probe es)
+  -- A trace has none that is equal to none, so that the two agree where these lists are equal; the answer has the number of entries then.
+  pub agree-exactly : (trace probe : List ℕ) (n : ℕ)
+      → Iff (compareBytes trace probe ≡ Agree n)
+      ((traceEntries (wordsOf trace) ≡ probeEntries (wordsOf probe)) × (length (traceEntries (wordsOf trace)) ≡ n))
+  -- They part after n entries exactly where the first n of both are equal, and there is no pair of equal ones after these.
+  pub parted-there : (trace probe : List ℕ) (n : ℕ)
+      → Iff (compareBytes trace probe ≡ Part n) (PartAfter n (traceEntries (wordsOf trace)) (probeEntries (wordsOf probe)))
+  -- A lone last word of a trace is no entry, and a machine records none: the words recorded by a call are whole entries.
+  pub whole-entries : (image cells : List ℕ) (f : ℕ) (arguments : List ℕ) (budget : ℕ) (trace : List ℕ)
+      → recordedCount (callBytes image cells f arguments budget trace .0) % 2 ≡ 0
+
+pub wish-13 : Wish13
+wish-13 =
+    record {
+      kept-exactly = kept-exactly;
+      recorded-exactly = recorded-exactly;
+      agree-exactly = agree-exactly;
+      parted-there = parted-there;
+      whole-entries = whole-entries;
+    }
+
 -- ======== The C functions
 -- What a host reads in the 28 bytes or more that it lent for the answer, and what the lent slices hold, are the definition's: so each clause above is
 -- one of the C functions, with the left side for the right. The relations are the functions' contracts (tinesage/specs/Contracts.antt).
@@ -465,6 +500,8 @@ pub record Functions : Type 0 where
   pub previews : (image cells : List ℕ) (f : ℕ) (arguments : List ℕ) (budget : ℕ) (trace answer trace′ answer′ : List ℕ) → 28 ≤ length answer
       → Previews image cells f arguments budget trace answer trace′ answer′
       → _≡_ {A = Called} (answerIn answer′, cells, trace′) (previewBytes image cells f arguments budget trace)
+  pub compares : (trace probe answer answer′ : List ℕ) → 28 ≤ length answer → Compares trace probe answer answer′
+      → comparedIn answer′ ≡ compareBytes trace probe
 
 pub functions : Functions
 functions =
@@ -480,4 +517,5 @@ functions =
           call-read answer answer′ room (callBytes image cells f arguments budget trace) cells′ trace′ c t a;
       previews = λ image cells f arguments budget trace answer trace′ answer′ room (c, t, a).
           call-read answer answer′ room (previewBytes image cells f arguments budget trace) cells trace′ c t a;
+      compares = λ trace probe answer answer′ room a. compare-read answer answer′ room (compareBytes trace probe) a;
     }

@@ -4,7 +4,7 @@
 use mathlib.Core.Path.{_≡_, refl, sym, ap, _∙_}
 use mathlib.Core.Bool.{Bool, false}
 use mathlib.Core.List.{List, [], _∷_, _++_}
-use Prim.Native.Nat.{ℕ, _+_, _*_, _≤_, _<_}
+use Prim.Native.Nat.{ℕ, _+_, _*_, _%_, _≤_, _<_}
 use native.Mathlib.Omega.{arith}
 use borrow.Author.Tests.{ltb-false}
 use lib.Dec.{ltb}
@@ -123,6 +123,7 @@ record Limits (budget room : ℕ) (x : Called) : Type 0 where
   steps : stepsOf (x .0) ≤ budget
   count : recordedCount (x .0) ≡ length (x .2)
   words : length (x .2) ≤ room
+  even : length (x .2) % 2 ≡ 0
   spent-at : (p z n : ℕ) → x .0 ≡ Stopped 21 p z n → z ≡ budget
   filled-at : (p z n : ℕ) → x .0 ≡ Stopped 22 p z n → room < n + 2
 
@@ -148,17 +149,32 @@ limits-call whole words cells f arguments budget room =
 
     go : {x : Called} → Calls (length words) cells budget room x → Limits budget room x
     go (ends v z after trace h r c) =
-        record { steps = h; count = refl; words = r .fits; spent-at = λ p y n e. differ (cc); filled-at = λ p y n e. differ (cc) }
+        record {
+          steps = h;
+          count = refl;
+          words = r .fits;
+          even = r .even;
+          spent-at = λ p y n e. differ (cc);
+          filled-at = λ p y n e. differ (cc);
+        }
     go (stops k l z trace s i h r) =
         record {
           steps = h;
           count = refl;
           words = r .fits;
+          even = r .even;
           spent-at = λ p y n e. let a : k ≡ 21 = cc in let c : z ≡ y = cc in rw c at (after-budget s a);
           filled-at = λ p y n e. let a : k ≡ 22 = cc in let c : length trace ≡ n = cc in rw c at (within-two s a);
         }
     go (call-refuses k l r) =
-        record { steps = omega arith; count = refl; words = omega arith; spent-at = λ p y n e. differ (cc); filled-at = λ p y n e. differ (cc) }
+        record {
+          steps = omega arith;
+          count = refl;
+          words = omega arith;
+          even = refl;
+          spent-at = λ p y n e. differ (cc);
+          filled-at = λ p y n e. differ (cc);
+        }
 
 -- the words that a call records are the definition's
 recorded-bytes : (image cells : List ℕ) (f : ℕ) (arguments : List ℕ) (budget : ℕ) (trace : List ℕ)
@@ -273,6 +289,11 @@ module _ (image cells : List ℕ) (f : ℕ) (arguments : List ℕ) where
   pub words-within : (budget : ℕ) (trace : List ℕ) → recordedCount (onBytes budget trace .0) ≤ length (wordsOf trace)
   unfolding callBytes
   words-within budget trace = let q = limits budget (length (wordsOf trace)) in rw (q .count) (q .words)
+
+  -- "Trace entries are two words": no lone word is recorded
+  pub whole-entries : (budget : ℕ) (trace : List ℕ) → recordedCount (onBytes budget trace .0) % 2 ≡ 0
+  unfolding callBytes
+  whole-entries budget trace = let q = limits budget (length (wordsOf trace)) in rw (q .count) (q .even)
 
   -- "21 budget spent": the steps are the budget's
   pub budget-reached : (budget : ℕ) (trace : List ℕ) (p z n : ℕ) → onBytes budget trace .0 ≡ Stopped 21 p z n → z ≡ budget

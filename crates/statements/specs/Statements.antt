@@ -16,6 +16,8 @@ use Rattle.definitions.specs.declared.Checked.{Checked}
 use Rattle.definitions.specs.declared.Checked.the-variants.{Accepted, Refused as CheckRefused}
 use Rattle.definitions.specs.declared.Compiled.{Compiled}
 use Rattle.definitions.specs.declared.Compiled.the-variants.{Written, Refused as CompileRefused}
+use Rattle.definitions.specs.declared.Compared.{Compared}
+use Rattle.definitions.specs.declared.Compared.the-variants.{Agree, Part}
 use Rattle.definitions.specs.Bytes.{wordsOf, word4}
 use Rattle.definitions.specs.Image.{kindOf, payloadOf, opOf, targetOf, arraysOf, arrayLength, arraySecret, typeSecret}
 use Rattle.definitions.specs.Image.{Procedure, Image, guarded, procedureAt, cellCount, baseOf, largestImage}
@@ -457,3 +459,12 @@ compiledOf (Refused k p) = CompileRefused k p
 
 abbrev pub compiledIn : List ℕ → Compiled
 compiledIn bytes = compiledOf (answerIn bytes)
+
+-- a comparison's, which is always done: result 1 where they agree
+unfoldable pub comparedOf : Answer → Compared
+comparedOf (Done v z n) = pick (eqb v 1) (Agree n) (Part n)
+comparedOf (Stopped k p z n) = Part n
+comparedOf (Refused k p) = Part 0
+
+abbrev pub comparedIn : List ℕ → Compared
+comparedIn bytes = comparedOf (answerIn bytes)

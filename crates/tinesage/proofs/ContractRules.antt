@@ -4,8 +4,10 @@ use mathlib.Core.List.{List}
 use Prim.Native.Nat.{ℕ, _<_}
 use Rattle.definitions.specs.declared.Answer.{Answer}
 use Rattle.definitions.specs.declared.Checked.{Checked}
+use Rattle.definitions.specs.declared.Compared.{Compared}
 use Rattle.definitions.specs.declared.Compiled.{Compiled}
-use Rattle.definitions.specs.Host.{checkBytes, compileBytes, describeBytes, answerWords, checkedWords, compiledWords, answerBytes}
+use Rattle.definitions.specs.Host.{checkBytes, compileBytes, describeBytes, compareBytes, answerWords, checkedWords, compiledWords, comparedWords}
+use Rattle.definitions.specs.Host.{answerBytes}
 use Rattle.results.specs.Named.{answerPlace, checkedPlace, compiledPlace}
 use Rattle.answers.specs.Places.{check-place, compile-place, describe-place}
 
@@ -38,6 +40,11 @@ check-fits image r e = rw e (check-place image)
 pub check-put : (image : List ℕ) (r : Checked) (answer answer′ : List ℕ) → r ≡ checkBytes image → answer′ ≡ answerBytes answer (checkedWords r)
     → answer′ ≡ answerBytes answer (checkedWords (checkBytes image))
 check-put image r answer answer′ e h = h ∙ ap (λ (x : Checked). answerBytes answer (checkedWords x)) e
+
+-- the answer of a comparison
+pub compare-put : (trace probe : List ℕ) (r : Compared) (answer answer′ : List ℕ) → r ≡ compareBytes trace probe
+    → answer′ ≡ answerBytes answer (comparedWords r) → answer′ ≡ answerBytes answer (comparedWords (compareBytes trace probe))
+compare-put trace probe r answer answer′ e h = h ∙ ap (λ (x : Compared). answerBytes answer (comparedWords x)) e
 
 -- the answer of a function that writes words, with the output afterwards
 module _ (r : Compiled) (after : List ℕ) (x : Compiled × List ℕ) (e : (r, after) ≡ x) where

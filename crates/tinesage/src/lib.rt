@@ -1,6 +1,6 @@
 // The library's C functions. Slices cross as a pointer and a length in bytes, words most significant byte first. Each writes its answer as seven
 // words into the slice lent for it. No function has a condition: every number and every byte gets its answer.
-ghost use Rattle.tinesage.specs.Contracts.{Checks, Compiles, Describes, Loads, Clears, Pokes, Peeks, Calls, Previews};
+ghost use Rattle.tinesage.specs.Contracts.{Checks, Compiles, Describes, Loads, Clears, Pokes, Peeks, Calls, Previews, Compares};
 
 // Checks an image.
 #[no_mangle]
@@ -112,4 +112,13 @@ pub extern "C" fn tinesage_preview(
 {
     let a = serving::previews::preview(image, cells, procedure, arguments, budget, trace);
     answers::put_answer(answer, a);
+}
+
+// Holds a board probe's recording against a trace.
+#[no_mangle]
+pub extern "C" fn tinesage_compare(trace: &[u8], probe: &[u8], answer: &mut [u8])
+    ensures { λ _. ⌜ Compares (now (trace .entry)) (now (probe .entry)) (now (answer .entry)) (now (answer .exit)) ⌝ }
+{
+    let a = comparing::compare(trace, probe);
+    answers::put_compared(answer, a);
 }
