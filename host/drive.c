@@ -8,6 +8,7 @@
  *   new COUNT             fill VALUE                cells             (the cell slice that this host lends)
  *   poke ARRAY INDEX VALUE    peek ARRAY INDEX    clear
  *   call PROCEDURE BUDGET TRACECAP ARGUMENT..     preview PROCEDURE BUDGET TRACECAP ARGUMENT..
+ *   bound PROCEDURE       (the most steps of a call)
  *   agree W.. | W..       (a trace and a board probe's recording, in words)
  */
 #include <stdio.h>
@@ -179,6 +180,15 @@ static bool print_plain(struct tinesage_answer a)
     return a.status == TINESAGE_DONE;
 }
 
+/* `ok` and the result, or the refusal */
+static void print_result(struct tinesage_answer a)
+{
+    if (a.status == TINESAGE_DONE)
+        printf("ok %u\n", (unsigned)a.result);
+    else
+        print_refusal(a);
+}
+
 static void print_call(struct tinesage_answer a, const uint8_t *trace)
 {
     if (a.status == TINESAGE_REFUSED) {
@@ -293,11 +303,19 @@ static bool on_peek(struct session *session, struct request *line)
     if (!next_u32(&line->rest, &array) || !next_u32(&line->rest, &index) || !at_end(&line->rest))
         return false;
     tinesage_peek(image.at, image.length, cells.at, cells.length, array, index, answer, sizeof answer);
-    struct tinesage_answer a = tinesage_read_answer(answer);
-    if (a.status == TINESAGE_DONE)
-        printf("ok %u\n", (unsigned)a.result);
-    else
-        print_refusal(a);
+    print_result(tinesage_read_answer(answer));
+    return true;
+}
+
+static bool on_bound(struct session *session, struct request *line)
+{
+    const struct slice image = session->image, cells = session->cells;
+    uint32_t procedure;
+    uint8_t answer[TINESAGE_ANSWER];
+    if (!next_u32(&line->rest, &procedure) || !at_end(&line->rest))
+        return false;
+    tinesage_bound(image.at, image.length, cells.at, cells.length, procedure, answer, sizeof answer);
+    print_result(tinesage_read_answer(answer));
     return true;
 }
 
@@ -426,7 +444,7 @@ static const struct handler handlers[] = {
     {"describe", on_describe}, {"describebytes", on_describe}, {"load", on_load},       {"loadbytes", on_load},
     {"new", on_new},           {"fill", on_fill},              {"cells", on_cells},     {"clear", on_clear},
     {"poke", on_poke},         {"peek", on_peek},              {"call", on_call},       {"preview", on_call},
-    {"agree", on_agree},
+    {"bound", on_bound},       {"agree", on_agree},
 };
 
 static bool answer_request(struct session *session, struct request *line)

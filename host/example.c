@@ -1,11 +1,12 @@
 /*
  * A short host. It compiles the paper's example image, loads source and compiled form in turn, and calls each with two
- * values of its secret parameter: the source's trace tells them apart, the compiled form's does not. Then it loads an
- * image with an array, pokes its cells and calls the procedure that adds them up, with a trace slice just as long as a
- * preview says that it has to be. Against a trace of each image it holds two recordings of a board probe: one agrees,
- * and one with another branch, or with indices in another order, parts. Last it compiles an image that adds two long
- * numbers under a secret condition, and calls it with both values of the condition: the sum is stored or not, and the
- * traces are equal to the last byte.
+ * values of its secret parameter: the source's trace tells them apart, the compiled form's does not. The budget of each
+ * call is what the library answers as the most steps that the loaded procedure takes: of the source a call takes fewer,
+ * of the images without a branch exactly as many. Then it loads an image with an array, pokes its cells and calls the
+ * procedure that adds them up, with a trace slice just as long as a preview says that it has to be. Against a trace of
+ * each image it holds two recordings of a board probe: one agrees, and one with another branch, or with indices in
+ * another order, parts. Last it compiles an image that adds two long numbers under a secret condition, and calls it
+ * with both values of the condition: the sum is stored or not, and the traces are equal to the last byte.
  */
 #include <stdio.h>
 #include <stdlib.h>
@@ -14,7 +15,6 @@
 #include "tinesage.h"
 
 #define TRACE_WORDS 128
-#define BUDGET 100
 
 /* One secret parameter: returns 1 where it is 7, else 0. */
 static const uint32_t example[] = {
@@ -46,6 +46,8 @@ static uint8_t image[4 * TINESAGE_MOST_WORDS];
 static size_t image_length;
 static uint8_t cells[4 * TINESAGE_MOST_CELLS];
 static uint8_t trace[4 * TRACE_WORDS];
+/* the steps reserved for a call of procedure 0 */
+static uint32_t budget;
 /* the trace words that the last call recorded; what stands behind them is none of its entries */
 static uint64_t recorded;
 
@@ -69,11 +71,22 @@ static void expect_done(const char *what, struct tinesage_answer a)
     exit(EXIT_FAILURE);
 }
 
+/* reserves the most steps that a call of procedure 0 can take */
+static void reserve(void)
+{
+    uint8_t answer[TINESAGE_ANSWER];
+    tinesage_bound(image, image_length, cells, sizeof cells, 0, answer, sizeof answer);
+    expect_done("bound", tinesage_read_answer(answer));
+    budget = tinesage_read_answer(answer).result;
+    printf("  reserved for a call: %u steps\n", (unsigned)budget);
+}
+
 static void load(void)
 {
     uint8_t answer[TINESAGE_ANSWER];
     tinesage_load(image, image_length, cells, sizeof cells, answer, sizeof answer);
     expect_done("load", tinesage_read_answer(answer));
+    reserve();
 }
 
 /* the compiled form is this host's image from then on */
@@ -115,7 +128,7 @@ static void call(const char *title, const uint32_t *values, size_t count, size_t
 {
     uint8_t arguments[4 * TINESAGE_MOST_ARGUMENTS], answer[TINESAGE_ANSWER];
     put_words(arguments, values, count);
-    tinesage_call(image, image_length, cells, sizeof cells, 0, arguments, 4 * count, BUDGET, trace, 4 * trace_words,
+    tinesage_call(image, image_length, cells, sizeof cells, 0, arguments, 4 * count, budget, trace, 4 * trace_words,
                   answer, sizeof answer);
     struct tinesage_answer a = tinesage_read_answer(answer);
     if (a.status == TINESAGE_DONE)
@@ -153,7 +166,7 @@ static size_t previewed_words(void)
     size_t words = 4;
     do {
         words *= 2;
-        tinesage_preview(image, image_length, cells, sizeof cells, 0, NULL, 0, BUDGET, trace, 4 * words, answer,
+        tinesage_preview(image, image_length, cells, sizeof cells, 0, NULL, 0, budget, trace, 4 * words, answer,
                          sizeof answer);
         a = tinesage_read_answer(answer);
         printf("  preview with %u trace words: %u recorded%s\n", (unsigned)words, (unsigned)a.count,
@@ -195,7 +208,7 @@ static void add_where(uint32_t condition)
 {
     uint8_t arguments[4], answer[TINESAGE_ANSWER];
     tinesage_put_word(arguments, 0, condition);
-    tinesage_call(image, image_length, cells, sizeof cells, 0, arguments, sizeof arguments, BUDGET, trace, sizeof trace,
+    tinesage_call(image, image_length, cells, sizeof cells, 0, arguments, sizeof arguments, budget, trace, sizeof trace,
                   answer, sizeof answer);
     struct tinesage_answer a = tinesage_read_answer(answer);
     expect_done("call", a);

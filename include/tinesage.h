@@ -40,9 +40,9 @@ extern "C" {
 
 /* The version of this interface. A new major number may break a host, a new minor number adds. */
 #define TINESAGE_VERSION_MAJOR 2
-#define TINESAGE_VERSION_MINOR 4
+#define TINESAGE_VERSION_MINOR 5
 #define TINESAGE_VERSION_PATCH 0
-#define TINESAGE_VERSION "2.4.0"
+#define TINESAGE_VERSION "2.5.0"
 
 /* ---- sizes ---- */
 
@@ -71,7 +71,8 @@ enum tinesage_status {
     TINESAGE_REFUSED = 2  /* nothing was done */
 };
 
-/* the second word of an answer that is refused; there is no 19 */
+/* the second word of an answer that is refused; there is no 19, and none from 21 to 31: 21 to 24
+   are stops */
 enum tinesage_refusal {
     /* reading the image: the first fault */
     TINESAGE_REFUSAL_LENGTH = 1,         /* empty, too long, or not whole words */
@@ -96,7 +97,10 @@ enum tinesage_refusal {
     /* the machine */
     TINESAGE_REFUSAL_OUT_OF_RANGE = 17,   /* no such procedure, array or cell; too few cells lent */
     TINESAGE_REFUSAL_ARGUMENT_COUNT = 18, /* another number of arguments than of parameters */
-    TINESAGE_REFUSAL_NOT_LOADED = 20      /* the image is empty: nothing has been loaded */
+    TINESAGE_REFUSAL_NOT_LOADED = 20,     /* the image is empty: nothing has been loaded */
+    /* the bound of a procedure */
+    TINESAGE_REFUSAL_UNBOUNDED_LOOP = 32, /* a for whose bounds are not both constants */
+    TINESAGE_REFUSAL_BOUND_TOO_LARGE = 33 /* more than 4,294,967,295 steps */
 };
 
 /* the second word of an answer that is stopped */
@@ -316,6 +320,27 @@ void tinesage_preview(const uint8_t *image, size_t image_len, const uint8_t *cel
                       size_t cells_len, uint32_t procedure, const uint8_t *arguments,
                       size_t arguments_len, uint32_t budget, uint8_t *trace, size_t trace_len,
                       uint8_t *answer, size_t answer_len);
+
+/*
+ * Answers how many steps a call of a procedure takes at most, from the image alone, so that a host
+ * can reserve them before the call. Every statement counts 1, also one behind a return; a for adds
+ * for each of its passes 1 and the statements of its block, an if adds the larger of its two
+ * blocks, a call adds the bound of the procedure called.
+ *
+ * A call or preview with whatever cells, arguments, budget and trace slice takes no more steps, and
+ * with a budget of at least the bound it is never stopped with 21. Where neither the procedure nor
+ * any that it calls, directly or through others, has an if, or a return other than as the last
+ * statement of its body, a call that is done has taken exactly so many.
+ *
+ * Done: result is the bound; steps and count are 0.
+ * Refused: as by tinesage_clear; then 17, no such procedure; 32, the bounds of a for are not both
+ *   constants; 33, the bound is above 4,294,967,295. The place of 32 is the first such for of the
+ *   procedure, else of the lowest-numbered one with such a for among all that it calls, directly or
+ *   through others.
+ * Written: the answer. What the cells hold makes no difference to it.
+ */
+void tinesage_bound(const uint8_t *image, size_t image_len, const uint8_t *cells, size_t cells_len,
+                    uint32_t procedure, uint8_t *answer, size_t answer_len);
 
 /*
  * Holds a board probe's recording against a trace. The probe records the same call without this

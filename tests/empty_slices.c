@@ -155,6 +155,11 @@ static void preview(struct lending *l)
     tinesage_preview(LENT(IMAGE), LENT(CELLS), 0, LENT(ARGUMENTS), 1000, LENT(TRACE), LENT(ANSWER));
 }
 
+static void bound(struct lending *l)
+{
+    tinesage_bound(LENT(IMAGE), LENT(CELLS), 0, LENT(ANSWER));
+}
+
 static void compare(struct lending *l)
 {
     tinesage_compare(LENT(TRACE), LENT(PROBE), LENT(ANSWER));
@@ -170,6 +175,7 @@ static const struct function functions[] = {
     {"peek", 1 << IMAGE | 1 << CELLS | 1 << ANSWER, peek},
     {"call", 1 << IMAGE | 1 << CELLS | 1 << ARGUMENTS | 1 << TRACE | 1 << ANSWER, call},
     {"preview", 1 << IMAGE | 1 << CELLS | 1 << ARGUMENTS | 1 << TRACE | 1 << ANSWER, preview},
+    {"bound", 1 << IMAGE | 1 << CELLS | 1 << ANSWER, bound},
     {"compare", 1 << TRACE | 1 << PROBE | 1 << ANSWER, compare},
 };
 

@@ -1,6 +1,7 @@
 /*
- * The header beside the library: its limits are those at which the checker turns from accepting to refusing, and its
- * functions take answers and trace entries apart as the library writes them. Prints 'N passed, M failed' as its last
+ * The header beside the library: its limits are those at which the checker turns from accepting to refusing, its
+ * functions take answers and trace entries apart as the library writes them, and what previews, comparisons and bounds
+ * answer can be used as it says. Prints 'N passed, M failed' as its last
  * line.
  */
 #include <stdio.h>
@@ -256,6 +257,51 @@ static void comparison_cases(void)
     expect("and a parting at none", is_comparison(compared(trace, 0, seen, 6), TINESAGE_PART, 0));
 }
 
+/* a for from 0 up to what the last words say, over an assignment, and a return: 2 steps, and 2 for each pass */
+static struct tinesage_answer bound_up_to(const uint32_t *to, size_t words)
+{
+    static const uint32_t start[] = {0x10000001, 0x30000002, 0x40000000, 0x40000000,
+                                     0x40000000, 0x50000002, 0x60030000, 0x70000000};
+    static const uint32_t end[] = {0x50000001, 0x60000001, 0x70000000, 0x60040000, 0xA0000001};
+    uint8_t answer[TINESAGE_ANSWER];
+    count = 0;
+    for (size_t i = 0; i < sizeof start / sizeof start[0]; i++)
+        push(start[i]);
+    for (size_t i = 0; i < words; i++)
+        push(to[i]);
+    for (size_t i = 0; i < sizeof end / sizeof end[0]; i++)
+        push(end[i]);
+    tinesage_bound(image, 4 * count, NULL, 0, 0, answer, sizeof answer);
+    return tinesage_read_answer(answer);
+}
+
+static struct tinesage_answer called_with(uint32_t budget)
+{
+    uint8_t trace[4 * TINESAGE_TRACE_ENTRY], answer[TINESAGE_ANSWER];
+    tinesage_call(image, 4 * count, NULL, 0, 0, NULL, 0, budget, trace, sizeof trace, answer, sizeof answer);
+    return tinesage_read_answer(answer);
+}
+
+/* the result of a bound is a budget for the call: it is enough, and here one less is not */
+static void bound_cases(void)
+{
+    struct tinesage_answer a = bound_up_to((const uint32_t[]){0x70000004}, 1);
+    expect("a bound stands in the result", a.status == TINESAGE_DONE && a.number == 0 && a.place == 0 &&
+                                               a.result == 10 && a.steps == 0 && a.count == 0);
+    struct tinesage_answer called = called_with(a.result);
+    expect("a call with that budget is done", called.status == TINESAGE_DONE && called.steps == a.result);
+    expect("one step less stops it", called_with(a.result - 1).number == TINESAGE_STOP_BUDGET);
+    a = bound_up_to((const uint32_t[]){0xA0000001}, 1);
+    expect("a variable is no constant bound",
+           a.status == TINESAGE_REFUSED && a.number == TINESAGE_REFUSAL_UNBOUNDED_LOOP && a.place == 6);
+    a = bound_up_to((const uint32_t[]){0x80000000, 0x7FFFFFFE}, 2);
+    expect("the largest number of steps that this image can have below the limit",
+           a.status == TINESAGE_DONE && a.result == 0xFFFFFFFE);
+    a = bound_up_to((const uint32_t[]){0x80000000, 0x7FFFFFFF}, 2);
+    expect("a pass more is too large",
+           a.status == TINESAGE_REFUSED && a.number == TINESAGE_REFUSAL_BOUND_TOO_LARGE && a.place == 0);
+}
+
 int main(void)
 {
     word_cases();
@@ -267,6 +313,7 @@ int main(void)
     shift_count_case();
     sized_trace_cases();
     comparison_cases();
+    bound_cases();
     printf("%u passed, %u failed\n", passed, failed);
     return failed == 0 ? EXIT_SUCCESS : EXIT_FAILURE;
 }

@@ -1,7 +1,8 @@
 /*
- * Stands between tests/secrets.c and the library (linker options --wrap=tinesage_call and --wrap=tinesage_preview) and
- * lets the first argument of a call show in the way that the environment variable LEAK names, so that tests/secrets can
- * see that it is reported; with LEAK_IN=preview that of a preview, and no call's.
+ * Stands between tests/secrets.c and the library (linker options --wrap=tinesage_call, --wrap=tinesage_preview and
+ * --wrap=tinesage_bound) and lets the first argument of a call show in the way that the environment variable LEAK
+ * names, so that tests/secrets can see that it is reported; with LEAK_IN=preview that of a preview, and no call's; with
+ * LEAK_IN=bound the first cell that is lent with a request for a bound.
  */
 #include <stdbool.h>
 #include <stdlib.h>
@@ -22,6 +23,10 @@ void __real_tinesage_preview(const uint8_t *image, size_t image_len, const uint8
 void __wrap_tinesage_preview(const uint8_t *image, size_t image_len, const uint8_t *cells, size_t cells_len,
                              uint32_t procedure, const uint8_t *arguments, size_t arguments_len, uint32_t budget,
                              uint8_t *trace, size_t trace_len, uint8_t *answer, size_t answer_len);
+void __real_tinesage_bound(const uint8_t *image, size_t image_len, const uint8_t *cells, size_t cells_len,
+                           uint32_t procedure, uint8_t *answer, size_t answer_len);
+void __wrap_tinesage_bound(const uint8_t *image, size_t image_len, const uint8_t *cells, size_t cells_len,
+                           uint32_t procedure, uint8_t *answer, size_t answer_len);
 
 /* the empty statement keeps the compiler from making a select of the branch */
 static __attribute__((noinline)) void leak_by_branch(uint32_t secret)
@@ -57,9 +62,10 @@ static bool leaking(const char *function)
     return strcmp(function, chosen == NULL ? "call" : chosen) == 0;
 }
 
-static uint32_t first_argument(const uint8_t *arguments, size_t arguments_len)
+/* of the arguments, or of the cells */
+static uint32_t first_word(const uint8_t *bytes, size_t length)
 {
-    return arguments_len < 4 ? 0 : tinesage_word(arguments, 0);
+    return length < 4 ? 0 : tinesage_word(bytes, 0);
 }
 
 static void leak_by_way(uint32_t secret)
@@ -85,7 +91,7 @@ void __wrap_tinesage_call(const uint8_t *image, size_t image_len, uint8_t *cells
                           const uint8_t *arguments, size_t arguments_len, uint32_t budget, uint8_t *trace,
                           size_t trace_len, uint8_t *answer, size_t answer_len)
 {
-    uint32_t secret = first_argument(arguments, arguments_len);
+    uint32_t secret = first_word(arguments, arguments_len);
     bool leak = leaking("call");
     if (leak)
         leak_by_way(secret);
@@ -102,7 +108,7 @@ void __wrap_tinesage_preview(const uint8_t *image, size_t image_len, const uint8
                              uint32_t procedure, const uint8_t *arguments, size_t arguments_len, uint32_t budget,
                              uint8_t *trace, size_t trace_len, uint8_t *answer, size_t answer_len)
 {
-    uint32_t secret = first_argument(arguments, arguments_len);
+    uint32_t secret = first_word(arguments, arguments_len);
     bool leak = leaking("preview");
     if (leak)
         leak_by_way(secret);
@@ -110,4 +116,17 @@ void __wrap_tinesage_preview(const uint8_t *image, size_t image_len, const uint8
                             trace_len, answer, answer_len);
     if (leak)
         leak_into_written(trace, trace_len, answer, secret);
+}
+
+/* it records no trace */
+void __wrap_tinesage_bound(const uint8_t *image, size_t image_len, const uint8_t *cells, size_t cells_len,
+                           uint32_t procedure, uint8_t *answer, size_t answer_len)
+{
+    uint32_t secret = first_word(cells, cells_len);
+    bool leak = leaking("bound");
+    if (leak)
+        leak_by_way(secret);
+    __real_tinesage_bound(image, image_len, cells, cells_len, procedure, answer, answer_len);
+    if (leak)
+        leak_into_written(NULL, 0, answer, secret);
 }

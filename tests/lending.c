@@ -2,8 +2,9 @@
  * What each lent byte holds after a request: slices with spare words and odd lengths, slices that are too short for the
  * answer, refusals and stops. A preview is held to the call with the same arguments: the same bytes, and no cell. A
  * routine whose index is a loop variable plus a constant is held to sums that are computed here, and one whose secret ifs
- * share their variables to what the same ifs give in C. A probe's recording is compared with a trace at all their lengths
- * and with each of their bits changed.
+ * share their variables to what the same ifs give in C. The bounds on steps of calls in loops are held to products that
+ * are computed here, and to the steps that such calls take. A probe's recording is compared with a trace at all their
+ * lengths and with each of their bits changed.
  * Prints 'N passed, M failed' as its last line; a function that writes to bytes which it may only read ends the program
  * before that line.
  */
@@ -779,6 +780,203 @@ static void choice_cases(void)
     }
 }
 
+/* ---- the most steps of a call ---- */
+
+/* what a request for a bound of the divider is lent, in bytes, and the refusal that is due, 0 for none */
+struct asked {
+    const char *what;
+    uint32_t number, place;
+    size_t image, cells;
+    uint32_t procedure;
+};
+
+static const struct asked asked[] = {
+    /* number, place, image, cells, procedure */
+    {"bound: an answer", 0, 0, ALL, CELLS_LENT, 0},
+    {"bound: just enough cells", 0, 0, ALL, 8, 0},
+    {"bound: no image", 20, 0, 0, 0, 1},
+    {"bound: not whole words", 1, 0, 55, 0, 1},
+    {"bound: a word is missing", 3, 13, 52, 0, 1},
+    {"bound: few cells", 17, 0, ALL, 7, 0},
+    {"bound: no such procedure", 17, 0, ALL, CELLS_LENT, 1},
+    {"bound: far from any procedure", 17, 0, ALL, CELLS_LENT, UINT32_MAX},
+};
+
+/* the store and the return take two steps, and so many statements behind the return count too */
+static void expect_asked(const struct asked *a, uint32_t unused, const uint8_t *lent_cells)
+{
+    size_t image_length = a->image == ALL ? divider_length : a->image;
+    tinesage_bound(divider, image_length, lent_cells, a->cells, a->procedure, answer.lent, answer_length);
+    if (answer_length >= TINESAGE_ANSWER)
+        expect_answer(&answer, a->number == 0 ? (const uint32_t[7]){0, 0, 0, 2 + unused}
+                                              : (const uint32_t[7]){2, a->number, a->place});
+    expect_all(a->what);
+}
+
+/* with cells that can be written, which have to stay, and with cells that cannot */
+static void asked_cases(void)
+{
+    reset(&cells);
+    set_read_only(cells.lent, LONGEST);
+    for (size_t i = 0; i < sizeof unused_statements / sizeof unused_statements[0]; i++) {
+        make_divider(unused_statements[i]);
+        for (size_t k = 0; k < sizeof asked / sizeof asked[0]; k++) {
+            for (size_t n = 0; n < sizeof answer_lengths / sizeof answer_lengths[0]; n++) {
+                under_way = asked[k].what;
+                reset_all();
+                answer_length = answer_lengths[n];
+                expect_asked(&asked[k], unused_statements[i], cells.lent);
+                reset_all();
+                answer_length = answer_lengths[n];
+                expect_asked(&asked[k], unused_statements[i], read_only);
+            }
+        }
+    }
+}
+
+/* an image under construction: a for with its bounds */
+static uint8_t loops[4 * 64];
+static size_t loops_words;
+
+static void push_loops(const uint32_t *words, size_t length)
+{
+    put_words(loops + 4 * loops_words, words, length);
+    loops_words += length / 4;
+}
+
+static void push_constant(uint32_t value)
+{
+    if (value < 0x10000000)
+        push_loops((const uint32_t[]){0x70000000 | value}, 4);
+    else
+        push_loops((const uint32_t[]){0x80000000, value}, 8);
+}
+
+static void ask_loops(size_t cells_length, uint32_t procedure)
+{
+    reset_all();
+    tinesage_bound(loops, 4 * loops_words, cells.lent, cells_length, procedure, answer.lent, answer_length);
+}
+
+/* two cells and a for from 0 over an empty block, at word 7; the image's end is its upper bound and the block */
+static void start_loop(void)
+{
+    static const uint32_t words[] = {0x10000101, 0x20000002, 0x30000101, 0x40000000, 0x40000000,
+                                     0x40000000, 0x50000001, 0x60030001, 0x70000000};
+    loops_words = 0;
+    push_loops(words, sizeof words);
+}
+
+/* the answer is due only where both the cells and the procedure are there: 17 comes before 32 and 33 */
+static void expect_loop(const char *what, const uint32_t due[7])
+{
+    push_loops((const uint32_t[]){0x50000000}, 4);
+    ask_loops(8, 0);
+    expect_answer(&answer, due);
+    expect_all(what);
+    ask_loops(7, 0);
+    expect_answer(&answer, (const uint32_t[7]){2, 17});
+    expect_all("bound: few cells before 32 and 33");
+    ask_loops(8, 1);
+    expect_answer(&answer, (const uint32_t[7]){2, 17});
+    expect_all("bound: no such procedure before 32 and 33");
+}
+
+static void loop_cases(void)
+{
+    start_loop();
+    push_constant(UINT32_MAX - 1);
+    expect_loop("bound: the largest", (const uint32_t[7]){0, 0, 0, UINT32_MAX});
+    start_loop();
+    push_constant(UINT32_MAX);
+    expect_loop("bound: one more is 33", (const uint32_t[7]){2, 33, 0});
+    start_loop();
+    push_loops((const uint32_t[]){0xA0000000}, 4);
+    expect_loop("bound: a variable is 32", (const uint32_t[7]){2, 32, 7});
+    start_loop();
+    push_loops((const uint32_t[]){0xD0000000, 0x70000001, 0x70000001}, 12);
+    expect_loop("bound: a sum of constants is 32", (const uint32_t[7]){2, 32, 7});
+}
+
+/*
+ * Procedure 0: for i within bounds, v := 0; return v. Procedure 1: for i within bounds, v := a call of procedure 0;
+ * return v.
+ */
+static void make_loops(const uint32_t inner[2], const uint32_t outer[2])
+{
+    static const uint32_t procedure[] = {0x30000002, 0x40000000, 0x40000000, 0x40000000, 0x50000002, 0x60030000};
+    static const uint32_t assigned[] = {0x50000001, 0x60000001, 0x70000000}, called[] = {0x50000001, 0x60050001};
+    static const uint32_t returned[] = {0x60040000, 0xA0000001};
+    loops_words = 0;
+    push_loops((const uint32_t[]){0x10000002}, 4);
+    push_loops(procedure, sizeof procedure);
+    push_constant(inner[0]);
+    push_constant(inner[1]);
+    push_loops(assigned, sizeof assigned);
+    push_loops(returned, sizeof returned);
+    push_loops(procedure, sizeof procedure);
+    push_constant(outer[0]);
+    push_constant(outer[1]);
+    push_loops(called, sizeof called);
+    push_loops(returned, sizeof returned);
+}
+
+static uint64_t passes(const uint32_t bounds[2])
+{
+    return bounds[0] < bounds[1] ? bounds[1] - bounds[0] : 0;
+}
+
+/* a product that 64 bits do not hold is far above the limit */
+static uint64_t product(uint64_t a, uint64_t b)
+{
+    return b != 0 && a > UINT64_MAX / b ? UINT64_MAX : a * b;
+}
+
+/* a call has no branch and no early return, so that it takes exactly as many steps as the bound says */
+static void expect_exact(uint32_t bound)
+{
+    uint8_t long_trace[4 * 1024];
+    reset_all();
+    tinesage_call(loops, 4 * loops_words, NULL, 0, 1, NULL, 0, bound, long_trace, sizeof long_trace, answer.lent,
+                  answer_length);
+    struct tinesage_answer a = tinesage_read_answer(answer.lent);
+    expect("bound: a call takes as many steps", a.status == TINESAGE_DONE && a.steps == bound);
+    tinesage_call(loops, 4 * loops_words, NULL, 0, 1, NULL, 0, bound - 1, long_trace, sizeof long_trace, answer.lent,
+                  answer_length);
+    a = tinesage_read_answer(answer.lent);
+    expect("bound: a budget of one less stops it", a.status == TINESAGE_STOPPED && a.number == TINESAGE_STOP_BUDGET);
+}
+
+static void expect_bound(const uint32_t inner[2], const uint32_t outer[2])
+{
+    uint64_t callee = 2 + 2 * passes(inner), turns = product(passes(outer), 2 + callee);
+    int fits = turns <= UINT32_MAX - 2;
+    make_loops(inner, outer);
+    ask_loops(0, 1);
+    expect_answer(&answer, fits ? (const uint32_t[7]){0, 0, 0, (uint32_t)turns + 2} : (const uint32_t[7]){2, 33, 0});
+    expect_all("bound: a call in a loop");
+    if (turns < 1000000 && passes(outer) < 100)
+        expect_exact((uint32_t)turns + 2);
+}
+
+static void product_cases(void)
+{
+    static const uint32_t ends[] = {0,          1,          2,          3,          0xFFFF,     0x10000,    0x10001,
+                                    0x0FFFFFFF, 0x10000000, 0x3FFFFFFE, 0x7FFFFFFF, 0x80000000, 0xFFFFFFFE, 0xFFFFFFFF};
+    size_t count = sizeof ends / sizeof ends[0];
+    for (size_t i = 0; i < count * count; i++)
+        for (size_t k = 0; k < count * count; k++)
+            expect_bound((const uint32_t[]){ends[i / count], ends[i % count]},
+                         (const uint32_t[]){ends[k / count], ends[k % count]});
+}
+
+static void bound_cases(void)
+{
+    asked_cases();
+    loop_cases();
+    product_cases();
+}
+
 /* ---- a board probe's recording beside a trace ---- */
 
 /* entries of all kinds; the probe sees five of them, no two of which are equal */
@@ -946,6 +1144,7 @@ int main(void)
     carry_cases();
     bounded_cases();
     choice_cases();
+    bound_cases();
     compare_cases();
     printf("%u passed, %u failed\n", passed, failed);
     return failed == 0 ? EXIT_SUCCESS : EXIT_FAILURE;

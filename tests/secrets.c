@@ -2,11 +2,12 @@
  * The machine code held to the third property, as far as valgrind's memcheck can see.
  *
  * Reads request lines and takes the images of their check, compile and load requests; those in source form are compiled
- * first. On each image it sends load, poke, peek, clear, call and preview requests. Before each of them, every byte
- * that the third property lets differ between two machines is marked as undefined: secret arguments, words poked into
- * secret cells, the cells of secret arrays, what a trace slice holds before a call or preview and what the cells hold
- * before a load. Memcheck then reports every branch and every address that depends on one of them, and afterwards all
- * that the property calls equal has to be defined.
+ * first. On each image it sends load, poke, peek, clear, call, preview and bound requests. Before each of them, every
+ * byte that the third property lets differ between two machines is marked as undefined: secret arguments, words poked
+ * into secret cells, the cells of secret arrays, what a trace slice holds before a call or preview and what the cells
+ * hold before a load; before a bound, which follows from the image alone, the cells of public arrays too. Memcheck then
+ * reports every branch and every address that depends on one of them, and afterwards all that the property calls equal
+ * has to be defined.
  *
  *   valgrind target/secrets SEED <REQUESTS
  *   valgrind target/secrets SEED as-they-are <REQUESTS     images in source form are run without compiling
@@ -106,7 +107,7 @@ static void read_outline(void)
 
 /* ---- marks and reports ---- */
 
-static unsigned long long images, requests, calls_done, calls_stopped, calls_refused, previews, secret_words,
+static unsigned long long images, requests, calls_done, calls_stopped, calls_refused, previews, bounds, secret_words,
     reported_requests;
 static unsigned reports;
 
@@ -240,6 +241,19 @@ static void peek(uint32_t array)
     judge("peek", array);
 }
 
+/* no cell may matter, a public one no more than a secret one */
+static void bound(uint32_t procedure)
+{
+    hide_secret_cells();
+    hide(cells, sizeof cells);
+    hide(answer, sizeof answer);
+    tinesage_bound(image, image_length, cells, sizeof cells, procedure, answer, sizeof answer);
+    expect_answer(false);
+    (void)VALGRIND_MAKE_MEM_DEFINED(cells, sizeof cells);
+    judge("bound", procedure);
+    bounds++;
+}
+
 /* what a call is given beside the image and the cells; a preview is given the same */
 struct call {
     uint32_t number, arguments, budget, trace_words;
@@ -327,6 +341,8 @@ static void session(void)
                 poke(array);
         call_twice();
     }
+    bound(random_procedure());
+    bound(below(outline.procedures + 1));
     if (outline.arrays > 0)
         peek(below(outline.arrays));
     clear();
@@ -397,8 +413,9 @@ int main(int count, char **arguments)
     while ((length = getline(&text, &room, stdin)) > 0)
         take_line(text, (size_t)length, as_they_are);
     free(text);
-    printf("%llu images, %llu requests, %llu calls done, %llu stopped, %llu refused, %llu previews, %llu secret words, "
-           "%llu requests reported\n",
-           images, requests, calls_done, calls_stopped, calls_refused, previews, secret_words, reported_requests);
+    printf("%llu images, %llu requests, %llu calls done, %llu stopped, %llu refused, %llu previews, %llu bounds, "
+           "%llu secret words, %llu requests reported\n",
+           images, requests, calls_done, calls_stopped, calls_refused, previews, bounds, secret_words,
+           reported_requests);
     return reported_requests == 0 ? EXIT_SUCCESS : EXIT_FAILURE;
 }

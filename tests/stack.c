@@ -291,22 +291,23 @@ static bool admitted(const struct shape *s)
 /* ---- the functions, each on a thread of its own ---- */
 
 /* all before the last take an image */
-enum function { CHECK, COMPILE, DESCRIBE, LOAD, CLEAR, POKE, PEEK, CALLED, PREVIEWED, COMPARED, FUNCTIONS };
+enum function { CHECK, COMPILE, DESCRIBE, LOAD, CLEAR, POKE, PEEK, CALLED, PREVIEWED, BOUNDED, COMPARED, FUNCTIONS };
 static const char *const function_names[] = {"tinesage_check", "tinesage_compile", "tinesage_describe", "tinesage_load",
                                              "tinesage_clear", "tinesage_poke",    "tinesage_peek",     "tinesage_call",
-                                             "tinesage_preview", "tinesage_compare"};
+                                             "tinesage_preview", "tinesage_bound", "tinesage_compare"};
 
 /* what docs/STACK.md states, in bytes */
 static const size_t bounds[FUNCTIONS] = {[CHECK] = 112 << 10, [COMPILE] = 192 << 10, [DESCRIBE] = 112 << 10,
                                          [LOAD] = 112 << 10,  [CLEAR] = 112 << 10,   [POKE] = 112 << 10,
                                          [PEEK] = 112 << 10,  [CALLED] = 384 << 10,  [PREVIEWED] = 384 << 10,
-                                         [COMPARED] = 4 << 10};
+                                         [BOUNDED] = 112 << 10, [COMPARED] = 4 << 10};
 
 /* the same for images of at most SHORT words; the compiler has none, since its result may be long */
 #define SHORT 512
 static const size_t short_bounds[FUNCTIONS] = {[CHECK] = 36 << 10, [DESCRIBE] = 36 << 10, [LOAD] = 36 << 10,
                                                [CLEAR] = 36 << 10, [POKE] = 36 << 10,     [PEEK] = 36 << 10,
-                                               [CALLED] = 128 << 10, [PREVIEWED] = 128 << 10};
+                                               [CALLED] = 128 << 10, [PREVIEWED] = 128 << 10,
+                                               [BOUNDED] = 36 << 10};
 
 struct job {
     enum function function;
@@ -334,6 +335,9 @@ static void *run(void *given)
     case CLEAR: tinesage_clear(image, length, cells, sizeof cells, job->answer, answer_len); break;
     case POKE: tinesage_poke(image, length, cells, sizeof cells, 1, 0, 0, job->answer, answer_len); break;
     case PEEK: tinesage_peek(image, length, cells, sizeof cells, 1, 0, job->answer, answer_len); break;
+    case BOUNDED:
+        tinesage_bound(image, length, cells, sizeof cells, job->procedure, job->answer, answer_len);
+        break;
     case COMPARED:
         tinesage_compare(trace, 2 * TINESAGE_TRACE_ENTRY * job->entries, out, TINESAGE_TRACE_ENTRY * job->entries,
                          job->answer, answer_len);
@@ -458,6 +462,7 @@ static void measure_all(const struct shape *s)
     measure(COMPILE, s, &image);
     measure(CALLED, s, &image);
     measure(PREVIEWED, s, &image);
+    measure(BOUNDED, s, &image);
     /* these check the image, and what they do after it is the same for all */
     for (int f = DESCRIBE; f <= PEEK && s->leaf == RETURN; f++)
         measure((enum function)f, s, &image);

@@ -40,6 +40,15 @@ extern "C" {
         answer: *mut u8,
         answer_len: usize,
     );
+    fn tinesage_bound(
+        image: *const u8,
+        image_len: usize,
+        cells: *const u8,
+        cells_len: usize,
+        procedure: u32,
+        answer: *mut u8,
+        answer_len: usize,
+    );
 }
 
 type AnswerBytes = [u8; 28];
@@ -113,6 +122,23 @@ pub fn preview(image: &[u8], cells: &[u8], call: &Call, trace: &mut [u8]) -> Ans
         );
     }
     answered(&answer)
+}
+
+/// The most steps of a call of the procedure, where they are known ahead.
+pub fn bound(image: &[u8], cells: &[u8], procedure: u32) -> Option<u32> {
+    let mut answer = [0; 28];
+    unsafe {
+        tinesage_bound(
+            image.as_ptr(),
+            image.len(),
+            cells.as_ptr(),
+            cells.len(),
+            procedure,
+            answer.as_mut_ptr(),
+            answer.len(),
+        );
+    }
+    (word(&answer, 0) == 0).then(|| word(&answer, 3))
 }
 
 fn answered(answer: &AnswerBytes) -> Answer {

@@ -4,7 +4,8 @@ use std::hint::black_box;
 use std::time::{Duration, Instant};
 
 use crate::workloads::{
-    hot_loop, long_source, mixed, nested_fors, small_routine, untaken_arm, Call, Workload,
+    call_chain, hot_loop, long_source, mixed, nested_fors, small_routine, untaken_arm, Call,
+    Workload,
 };
 use crate::{compile, library, second, words};
 
@@ -253,4 +254,40 @@ pub fn preview_table(passes: u32) {
     }
     let workload = mixed(passes / 8);
     preview_row(&format!("{}, source", workload.name), &workload.image, &workload.call);
+}
+
+// ---- bounds ----
+
+/// The library's bound of the last of so many procedures: beside the check that it begins with, then beside the
+/// second program's.
+fn bound_row(title: &str, image: &[u8], procedures: u32, cells: usize) {
+    let lent = vec![0; 4 * cells];
+    let last = procedures - 1;
+    let known = library::bound(image, &lent, last);
+    assert!(known.is_some() && known == second::bound(image, last), "bounds differ");
+    let by_library = || library::bound(black_box(image), &lent, last);
+    let (of_check, of_bound) = least_of_both(|| library::check(black_box(image)), by_library);
+    let pair = least_times(by_library, || second::bound(black_box(image), last));
+    println!(
+        "| {title} ({} words) | {:.2} | {:.2} | {:.3} | {:.3} |",
+        image.len() / 4,
+        of_check * 1e6,
+        of_bound * 1e6,
+        of_bound / of_check,
+        pair.second / pair.library
+    );
+}
+
+pub fn bound_table() {
+    println!();
+    println!("| image | check, microseconds | bound, microseconds | bound / check | library / second program |");
+    println!("| --- | ---: | ---: | ---: | ---: |");
+    bound_row("small routine, source", &small_routine().image, 1, 0);
+    for words in [512, 1024, 2048, 4096] {
+        bound_row("long source, source", &long_source(words).image, 1, 0);
+    }
+    bound_row("mixed loop, source", &mixed(1000).image, 1, 16);
+    for procedures in [16, 31] {
+        bound_row(&format!("{procedures} procedures"), &call_chain(procedures), procedures, 0);
+    }
 }

@@ -1,7 +1,7 @@
 //! The second program, asked for the same work as the library: a call checks its image first.
 
 use crate::workloads::{Answer, Call};
-use crate::{check, compile, interpreter};
+use crate::{bounds, check, compile, interpreter};
 
 pub fn check(image: &[u8]) -> bool {
     check::check(image).is_ok()
@@ -22,4 +22,9 @@ pub fn call(image: &[u8], cells: &mut [u32], call: &Call, trace_capacity: usize)
     let outcome =
         interpreter::run(&image, called, cells, u32::MAX, trace_capacity as u64, &arguments);
     Answer { done: outcome.end.is_ok(), result: outcome.end.unwrap_or(0), steps: outcome.steps }
+}
+
+pub fn bound(image: &[u8], procedure: u32) -> Option<u32> {
+    let image = check::check(image).expect("the workloads are accepted");
+    bounds::bound(&image, procedure as usize).ok()
 }

@@ -1,4 +1,4 @@
-//! The images that are measured. Each has one procedure.
+//! The images that are measured. Each has one procedure, but for the chain of calls.
 
 use crate::words::{self, statement, word};
 
@@ -145,6 +145,17 @@ pub fn nested_fors(form: u32, count: u32, returns: bool) -> Vec<u8> {
         image.extend([statement(words::RETURN, 0), constant(1), block(0)]);
     } else {
         image.extend([statement(words::ASSIGN, 1), constant(1)]);
+    }
+    words::to_bytes(&image)
+}
+
+/// So many procedures, each of which calls the one before it twice: the steps of the last double with each.
+pub fn call_chain(procedures: u32) -> Vec<u8> {
+    let mut image = vec![0x1000_0000 | procedures, procedure(0, 0), PUBLIC_WORD, block(1)];
+    image.extend([statement(words::RETURN, 0), constant(0)]);
+    for callee in 0..procedures - 1 {
+        let call = words::call(callee, 0);
+        image.extend([procedure(0, 1), PUBLIC_WORD, PUBLIC_WORD, block(2), call, call]);
     }
     words::to_bytes(&image)
 }

@@ -17,10 +17,11 @@ use crate::program::{program, Shape, Slip};
 use crate::protocol::{push_words, Driver};
 use crate::random::Random;
 use crate::recordings::{is_seen, recording, Recording};
+use crate::step_counts::{counted_image, Counted, Kind, KINDS};
 use crate::words;
 
 /// Prints request lines until there are at least `count`, those about a probe's
-/// recordings aside.
+/// recordings and about images that are made for bounds aside.
 pub fn generate(seed: u64, count: u64, output: impl Write) -> io::Result<()> {
     let (random, driver) = (Random::new(seed), Driver::new());
     let mut generator = Generator { random, driver, output, lines: 0 };
@@ -51,6 +52,9 @@ const SLIPS: [Slip; 10] = [
 /// call, else a preview alone, or one before or after the call.
 const RUNS: [&[&str]; 6] =
     [&["call"], &["call"], &["call"], &["preview"], &["preview", "call"], &["call", "preview"]];
+
+/// The largest bound that calls are made with.
+const MOST_RESERVED: u32 = 5_000;
 
 /// What a session has to know of an image to ask sensible things of it.
 #[derive(Default)]
@@ -92,7 +96,7 @@ impl<W: Write> Generator<W> {
     }
 
     fn case(&mut self) -> io::Result<()> {
-        match self.random.below(100) {
+        match self.random.below(108) {
             0..=26 => self.source_case(),
             27..=35 => self.compiled_case(),
             36..=43 => self.neighbour_case(),
@@ -103,7 +107,8 @@ impl<W: Write> Generator<W> {
             84 | 85 => self.noise_case(),
             86..=90 => self.limit_case(),
             91..=94 => self.length_case(),
-            _ => self.changing_session(),
+            95..=99 => self.changing_session(),
+            _ => self.bound_case(),
         }
     }
 
@@ -358,6 +363,43 @@ impl<W: Write> Generator<W> {
         Ok(())
     }
 
+    /// Images of all kinds whose bounds follow from how they are made.
+    fn bound_case(&mut self) -> io::Result<()> {
+        let lines = self.lines;
+        for kind in KINDS {
+            self.counted_image(kind)?;
+        }
+        // Not counted, so that they take no line from the other requests.
+        self.lines = lines;
+        Ok(())
+    }
+
+    /// The comment is for whoever counts: what the image was made for, and the
+    /// answer that is due.
+    fn counted_image(&mut self, kind: Kind) -> io::Result<()> {
+        let Counted { what, image, procedure, answer } = counted_image(&mut self.random, kind);
+        let outline = Outline::of(&image);
+        self.send(format!("new {}", outline.lengths.iter().sum::<u32>()))?;
+        if self.random.chance(10) {
+            self.bound(&outline, procedure)?;
+        }
+        self.send_image("load", &image)?;
+        self.send(format!("# bound: {what}: {answer}"))?;
+        self.bound(&outline, procedure)?;
+        if self.random.chance(10) {
+            let missing = outline.parameters.len() as u32;
+            self.bound(&outline, missing)?;
+        }
+        if self.random.chance(20) {
+            let other = self.procedure(&outline);
+            self.bound(&outline, other)?;
+        }
+        if self.random.chance(8) {
+            self.both_forms(&image)?;
+        }
+        Ok(())
+    }
+
     /// Several images, good and bad, in turn on one machine.
     fn changing_session(&mut self) -> io::Result<()> {
         let cells = self.random.pick(&[0, 8, 40, 300, 1024, 1030]).unwrap_or(0);
@@ -402,7 +444,7 @@ impl<W: Write> Generator<W> {
 
     fn requests(&mut self, outline: &Outline, count: u32) -> io::Result<()> {
         for _ in 0..count {
-            match self.random.below(100) {
+            match self.random.below(110) {
                 0..=26 => self.poke(outline)?,
                 27..=36 => self.peek(outline)?,
                 37..=39 => {
@@ -415,7 +457,11 @@ impl<W: Write> Generator<W> {
                     let image = [random_word(&mut self.random)];
                     self.send_image("load", &image)?;
                 }
-                _ => self.run(outline)?,
+                49..=99 => self.run(outline)?,
+                _ => {
+                    let procedure = self.procedure(outline);
+                    self.bound(outline, procedure)?;
+                }
             }
         }
         self.send("cells".to_string()).map(|_| ())
@@ -465,6 +511,24 @@ impl<W: Write> Generator<W> {
             }
         }
         self.recordings(&answer)
+    }
+
+    /// Asks for a bound. Where it is answered and small enough, a call or
+    /// preview with that budget follows, and mostly one with a budget near it.
+    fn bound(&mut self, outline: &Outline, procedure: u32) -> io::Result<()> {
+        let answer = self.send(format!("bound {procedure}"))?;
+        let bound = answer.strip_prefix("ok ").and_then(|bound| bound.parse::<u32>().ok());
+        let Some(bound) = bound.filter(|bound| *bound <= MOST_RESERVED) else { return Ok(()) };
+        let parameters = outline.parameters.get(procedure as usize).copied().unwrap_or(1);
+        let less = bound.saturating_sub(1);
+        let near = self.random.pick(&[less, less, bound + 1, u32::MAX]).unwrap_or(less);
+        let budgets = if self.random.chance(75) { vec![bound, near] } else { vec![bound] };
+        for budget in budgets {
+            let request = self.random.pick(&["call", "call", "preview"]).unwrap_or("call");
+            let arguments = self.arguments(parameters);
+            self.send(format!("{request} {procedure} {budget} 10000{arguments}"))?;
+        }
+        Ok(())
     }
 
     /// Recordings of a board probe held against the trace of a call or preview,

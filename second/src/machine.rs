@@ -1,8 +1,9 @@
 //! The machine: an image in force, cells that outlive calls, and the requests
-//! a host makes (refusals 17, 18 and 20).
+//! a host makes (refusals 17, 18, 20, 32 and 33).
 
 use std::rc::Rc;
 
+use crate::bounds::bound;
 use crate::check::check;
 use crate::image::Image;
 use crate::interpreter::{run, Outcome};
@@ -91,6 +92,15 @@ impl Machine {
         arguments: &[u32],
     ) -> Result<Outcome, Refusal> {
         self.clone().call(procedure, budget, trace_capacity, arguments)
+    }
+
+    /// The most steps that a call of the procedure takes. It asks for no cell.
+    pub fn bound(&self, procedure: u32) -> Result<u32, Refusal> {
+        let image = self.image()?;
+        if procedure as usize >= image.procedures.len() {
+            return Err(Refusal::whole(Code::NoSuchTarget));
+        }
+        bound(image, procedure as usize)
     }
 
     /// The image was checked when it was loaded and has not changed since, so

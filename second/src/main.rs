@@ -4,6 +4,7 @@
 //! `second drive` answers request lines from standard input.
 //! `second generate SEED COUNT` prints about COUNT request lines.
 
+mod bounds;
 mod check;
 mod compile;
 mod damage;
@@ -24,6 +25,7 @@ mod random;
 mod recordings;
 mod refusal;
 mod sorts;
+mod step_counts;
 mod words;
 
 use std::io::{self, BufReader, BufWriter, ErrorKind};

@@ -75,6 +75,7 @@ impl Driver {
                 Some(plain(self.machine.load(&image)))
             }
             "call" | "preview" => self.run(name, &fields),
+            "bound" => self.bound(&fields),
             "agree" => agree(&fields),
             _ => self.cell_request(name, &fields),
         }
@@ -97,10 +98,7 @@ impl Driver {
                 plain(self.machine.poke(array, index, parse_u32(value)?))
             }
             ("peek", [array, index]) => {
-                match self.machine.peek(parse_u32(array)?, parse_u32(index)?) {
-                    Ok(value) => format!("ok {value}"),
-                    Err(refusal) => refused(refusal),
-                }
+                number(self.machine.peek(parse_u32(array)?, parse_u32(index)?))
             }
             ("clear", []) => plain(self.machine.clear()),
             ("cells", []) => {
@@ -130,6 +128,11 @@ impl Driver {
             Err(refusal) => refused(refusal),
         })
     }
+
+    fn bound(&self, fields: &[&str]) -> Option<String> {
+        let [procedure] = fields else { return None };
+        Some(number(self.machine.bound(parse_u32(procedure)?)))
+    }
 }
 
 /// A trace and a probe's recording, in words with a bar between them. It asks
@@ -156,6 +159,13 @@ fn outcome_line(outcome: &Outcome) -> String {
 fn plain(answer: Result<(), Refusal>) -> String {
     match answer {
         Ok(()) => "ok".to_string(),
+        Err(refusal) => refused(refusal),
+    }
+}
+
+fn number(answer: Result<u32, Refusal>) -> String {
+    match answer {
+        Ok(number) => format!("ok {number}"),
         Err(refusal) => refused(refusal),
     }
 }

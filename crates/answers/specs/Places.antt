@@ -7,13 +7,13 @@ use native.Mathlib.Omega.{arith}
 use lib.ListN.{length, length-take}
 use Rattle.definitions.specs.Bytes.{wordsOf}
 use Rattle.definitions.specs.Checking.{admitted}
-use Rattle.definitions.specs.Host.{wholeWords, loadBytes, clearBytes, pokeBytes, peekBytes, callBytes, previewBytes, checkBytes, compileBytes}
-use Rattle.definitions.specs.Host.{describeBytes}
+use Rattle.definitions.specs.Host.{wholeWords, loadBytes, clearBytes, pokeBytes, peekBytes, callBytes, previewBytes, boundBytes, checkBytes}
+use Rattle.definitions.specs.Host.{compileBytes, describeBytes}
 use Rattle.laws.specs.Previews.{previewed-answer}
 use Rattle.requests.specs.LongImages.{front, wholeAndShort, same-admitted}
 use Rattle.results.specs.Named.{answerPlace, checkedPlace, compiledPlace}
 use Rattle.results.specs.Images.{Admits, admits-image, checked-within, compiled-within, described-within}
-use Rattle.results.specs.Requests.{load-within, clear-within, poke-within, peek-within, calls-image, calls-within}
+use Rattle.results.specs.Requests.{load-within, clear-within, poke-within, peek-within, bound-within, calls-image, calls-within}
 
 module _ (image : List ℕ) where
   short : length (front image) ≤ 16384
@@ -53,6 +53,10 @@ module _ (image : List ℕ) where
     pub peek-place : (a i : ℕ) → answerPlace (peekBytes image cells a i .0) < 4294967296
     unfolding peekBytes
     peek-place a i = fits (peek-within (wholeWords image) (wordsOf image) admits-front (wordsOf cells) a i)
+
+    pub bound-place : (f : ℕ) → answerPlace (boundBytes image cells f .0) < 4294967296
+    unfolding boundBytes
+    bound-place f = fits (bound-within (wholeWords image) (wordsOf image) admits-front (wordsOf cells) f)
 
     pub call-place : (f : ℕ) (arguments : List ℕ) (budget : ℕ) (trace : List ℕ) → answerPlace (callBytes image cells f arguments budget trace .0) < 4294967296
     unfolding callBytes

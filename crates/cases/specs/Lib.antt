@@ -5,3 +5,4 @@ pub mod Previews
 pub mod Indices
 pub mod Numbering
 pub mod Comparisons
+pub mod StepBounds

@@ -20,7 +20,7 @@ use Rattle.definitions.specs.Checking.{checked}
 use Rattle.definitions.specs.Compiling.{compiled}
 use Rattle.definitions.specs.Describing.{described}
 use Rattle.definitions.specs.Comparing.{compared}
-use Rattle.definitions.specs.Requests.{Served, Called, load, clear, poke, peek, call, preview}
+use Rattle.definitions.specs.Requests.{Served, Called, load, clear, poke, peek, call, preview, bound}
 
 -- whether bytes are whole words: "not whole words" is 1 for an image
 abbrev pub wholeWords : List ℕ → Bool
@@ -55,6 +55,10 @@ previewBytes image cells f arguments budget trace =
     let r : Called =
     preview (wholeWords image) (wordsOf image) (wordsOf cells) f (wordsOf arguments) budget (length (wordsOf trace)) in
     (r .0, lent cells (r .1), lent trace (r .2))
+
+-- cells that are lent to be read
+unfoldable pub boundBytes : List ℕ → List ℕ → ℕ → Answer × List ℕ
+boundBytes image cells f = onCells cells (bound (wholeWords image) (wordsOf image) (wordsOf cells) f)
 
 unfoldable pub checkBytes : List ℕ → Checked
 checkBytes image = checked (wholeWords image) (wordsOf image)

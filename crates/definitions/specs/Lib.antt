@@ -12,6 +12,7 @@ pub mod Encoding
 pub mod Compiling
 pub mod Describing
 pub mod Running
+pub mod StepBounds
 pub mod Requests
 pub mod Comparing
 pub mod Host

@@ -1,7 +1,8 @@
 -- Document 01, "The machine" and "From the image or request": the requests load, poke, peek, clear and call, with the
--- refusals 17, 18 and 20; document 02, wish 7: preview. "With every request it lends the image and the cells, arrays in
--- order." Each request gives its answer and what the lent cells, and a call's or preview's lent trace, hold afterwards.
-use Prim.Native.Nat.{ℕ, _+_}
+-- refusals 17, 18 and 20; document 02: preview (wish 7), bound (wish 11). "With every request it lends the image and the
+-- cells, arrays in order." Each request gives its answer and what the lent cells, and a call's or preview's lent trace,
+-- hold afterwards.
+use Prim.Native.Nat.{ℕ, suc, _+_}
 use mathlib.Core.Bool.{Bool, _&&_}
 use mathlib.Core.List.{List, [], _∷_, _++_}
 use lib.Dec.{ltb, leb, eqb}
@@ -15,6 +16,7 @@ use Rattle.definitions.specs.Image.{arrayLength, typeSort, Procedure, Im
 use Rattle.definitions.specs.Reading.{Parse, got, refused}
 use Rattle.definitions.specs.Checking.{admitted}
 use Rattle.definitions.specs.Running.{traceWords, Ran, on, halt, Given, gave, runProcedure}
+use Rattle.definitions.specs.StepBounds.{procedureCost, variableFors}
 
 -- An image that a request can work on, or the refusal.
 pub data Ready : Type 0 where
@@ -113,3 +115,17 @@ call whole image cells f arguments budget room =
 unfoldable pub preview : Bool → List ℕ → List ℕ → ℕ → List ℕ → ℕ → ℕ → Called
 preview whole image cells f arguments budget room =
     let r : Called = call whole image cells f arguments budget room in (r .0, cells, r .2)
+
+-- Document 02, wish 11: "32 [the first for whose bounds are not constants ..]; 33, a bound above 4,294,967,295, after
+-- 32"; by the places of those fors and the cost
+unfoldable pub bounded : List ℕ → ℕ → Answer
+bounded [] cost = pick (leb cost 4294967295) (carriedOut cost) (Refused 33 0)
+bounded (p ∷ places) cost = Refused 32 p
+
+-- "For a procedure of the loaded image, whichever its form, answer a bound from the image alone"; "both after 17"
+unfoldable pub boundOn : Image → ℕ → Answer
+boundOn image f = pick (ltb f (length (image .procedures)))
+    (bounded (variableFors (image .procedures) f) (procedureCost (image .procedures) (suc f) f)) (Refused 17 0)
+
+unfoldable pub bound : Bool → List ℕ → List ℕ → ℕ → Served
+bound whole image cells f = served (readyToServe whole image (length cells)) cells (λ m. (boundOn m f, cells))

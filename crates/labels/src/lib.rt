@@ -4,11 +4,11 @@ use definitions::ConstantLoop;
 use definitions::Fault;
 
 mod enclosing; // the enclosing fors with constant bounds
-mod operands; // what an operand's words say
+pub mod operands; // what an operand's words say
 mod sums; // a sum as an index
 mod expressions; // expressions
 mod leaves; // statements that hold no block
-mod loops; // the bounds of a for
+pub mod loops; // the bounds of a for
 mod statements; // statements that hold blocks, and blocks
 pub mod procedures; // a whole image
 

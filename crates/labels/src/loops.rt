@@ -46,7 +46,7 @@ fn label_bound(
 }
 
 // "a for passes from up to, not including, to"
-fn passes(from: u32, to: u32) -> u32
+pub fn passes(from: u32, to: u32) -> u32
     ensures { λ r. ⌜ r ≡ to - from ⌝ }
 {
     if from < to {

@@ -1,4 +1,5 @@
 pub mod Admitted
+pub mod Ascending
 pub mod Cells
 pub mod Comparisons
 pub mod CompiledLocals
@@ -24,8 +25,10 @@ pub mod ReadImages
 pub mod Reads
 pub mod Spelled
 pub mod StatementInversion
+pub mod StepBounds
 pub mod Sums
 pub mod Tests
 pub mod Trees
+pub mod VariableFors
 pub mod WordTests
 pub mod WordsOfBytes

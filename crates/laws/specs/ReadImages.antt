@@ -2,7 +2,7 @@
 -- their bodies read. Assumes nothing.
 use Prim.Native.Nat.{ℕ, zero, suc, _+_, _*_, _-_, _≤_, _<_}
 use mathlib.Core.Bool.{Bool, true, false, _&&_}
-use mathlib.Core.List.{List, _∷_, flatMap}
+use mathlib.Core.List.{List, [], _∷_, flatMap}
 use mathlib.Core.Path.{_≡_, refl, ap, sym, subst, _∙_}
 use native.Mathlib.Omega.{arith}
 use native.Mathlib.Nat.{zero-add, add-zero}
@@ -414,3 +414,14 @@ procedure-fits {form} {arity} (more-procedures {me} {p} {ps} e f fs) (suc i) h =
     let z = procedure-fits fs i (omega arith) in
     let same : me + 1 + i ≡ me + suc i = omega arith in
     rw same at z
+
+-- the procedures' numbers of parameters, as a table
+pub arities : List Procedure → List ℕ
+arities [] = []
+arities (p ∷ ps) = p .parameters ∷ arities ps
+
+pub arities-known : (ps : List Procedure) → Arities (arities ps) (length ps) (arityOf ps)
+unfolding arities
+arities-known [] f h = absurd (omega arith)
+arities-known (p ∷ ps) zero h = refl
+arities-known (p ∷ ps) (suc f) h = arities-known ps f (omega arith)

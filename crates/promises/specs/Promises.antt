@@ -19,7 +19,7 @@ use Rattle.definitions.specs.declared.Compiled.the-variants.{Written, Refused a
 use Rattle.definitions.specs.Bytes.{Bytes, wordAt, wordsOf, lent}
 use Rattle.definitions.specs.Image.{largestLevel, Expression, constant, variable, binary, Image, cellCount, baseOf}
 use Rattle.definitions.specs.Encoding.{imageWords}
-use Rattle.definitions.specs.Reading.{refused, readImage}
+use Rattle.definitions.specs.Reading.{got, refused, readImage}
 use Rattle.definitions.specs.Sorts.{imageSortFaults}
 use Rattle.definitions.specs.Labels.{boundsInside, boundedIndex, imageLabelFaults}
 use Rattle.definitions.specs.Checking.{admitted, verdict}
@@ -29,14 +29,15 @@ use Rattle.definitions.specs.Running.{traceWords, value, stop, operated}
 use Rattle.definitions.specs.Requests.{Called}
 use Rattle.definitions.specs.Host.{wholeWords, checkBytes, compileBytes, loadBytes, clearBytes, pokeBytes, peekBytes}
 use Rattle.definitions.specs.Comparing.{Entry, traceEntries, probeEntries}
-use Rattle.definitions.specs.Host.{callBytes, previewBytes, describeBytes, compareBytes}
+use Rattle.definitions.specs.Host.{callBytes, previewBytes, boundBytes, describeBytes, compareBytes}
 use Rattle.statements.specs.Statements.{Iff, Exactly, AdmissibleBytes, Among, RefusesBytes, NotLoaded, Loadable, NotReady, NoCell}
 use Rattle.statements.specs.Statements.{WithCell, NotCalled, Callable, cleared, stored, ResultOrStop, stepsOf, recordedCount}
 use Rattle.statements.specs.Statements.{recordedIn, SameOrSpent, SameOrFilled, BeyondArray, DivisorZero, NotWritten}
 use Rattle.statements.specs.Statements.{Compilable, SameMeaning, Machine, empty, Request, turn, responses, AlikeLists, SameTurns}
 use Rattle.statements.specs.Statements.{answerIn, checkedIn, compiledIn, comparedIn}
 use Rattle.statements.specs.Comparisons.{TraceShows, ProbeRecords, PartAfter}
-use Rattle.tinesage.specs.Contracts.{Checks, Compiles, Describes, Loads, Clears, Pokes, Peeks, Calls, Previews, Compares}
+use Rattle.statements.specs.StepBounds.{LongestPath, stepBound, NotBounded, Bounded, Straight}
+use Rattle.tinesage.specs.Contracts.{Checks, Compiles, Describes, Loads, Clears, Pokes, Peeks, Calls, Previews, Bounds, Compares}
 use Rattle.statements.specs.Limits.{FitsImage}
 use Rattle.statements.specs.FormerLimits.{readImageBy, formerReadImage, From, Kept, WithinLimits, SameAnswers}
 use Rattle.statements.specs.FormerAnswers.{AnswersAs}
@@ -63,6 +64,8 @@ use Rattle.results.specs.Written.{written-or-not, compile-refused-exactly, comp
 use Rattle.results.specs.StoppedExactly.{two-budgets, two-traces, steps-within, words-within, budget-reached, trace-filled}
 use Rattle.results.specs.StoppedExactly.{index-stops, divisor-stops, whole-entries}
 use Rattle.results.specs.PreviewedTraces.{trace-enough}
+use Rattle.results.specs.LongestPaths.{longest-path}
+use Rattle.results.specs.StepBounds.{bounded-or-not, bound-refused-exactly, bound-is-done, bound-leaves, from-image-alone, bound-holds, bound-enough, bound-exact}
 use Rattle.properties.specs.CompiledBytes.{target-accepted, target-tree, target-loads, same-meaning}
 use Rattle.secrecy.specs.Secrecy.{secrecy, served-to-the-end}
 use Rattle.promises.specs.Functions.{check-read, compile-read, request-read, call-read, compare-read}
@@ -445,6 +448,54 @@ wish-8 =
       fifteen-by-length = λ image out tree a s. fifteen-by-length image tree a s out;
     }
 
+-- ======== Document 02, wish 11
+-- "For a procedure of the loaded image, whichever its form, answer a bound from the image alone: statements plus passes, the larger arm of each if,
+-- callees included. No call takes more steps, and a budget of at least the bound never gives 21. Where neither the procedure nor any it calls, directly
+-- or through others, has an if, or a return other than as the body's last statement, a call that ends with a result takes exactly that many. Turned away:
+-- 32 [the first for whose bounds are not constants, the procedure first, then all callees, direct or not, by number]; 33, a bound above 4,294,967,295,
+-- after 32; both after 17." What is counted is definitions/specs/StepBounds.antt; which for is the first, and what a path is, statements/specs/StepBounds.antt.
+
+pub record Wish11 : Type 0 where
+  -- A bound is refused exactly where the wish has it, in its order; otherwise it is the procedure's cost. The cells are as before in every case.
+  pub bounded-exactly : (image cells : List ℕ) → Bytes cells → (f : ℕ)
+      → Exactly Refused (boundBytes image cells f .0) (NotBounded image cells f) (Bounded image cells f)
+      (λ tree. boundBytes image cells f ≡ (Done (stepBound tree f) 0 0, cells))
+  pub leaves-cells : (image cells : List ℕ) → Bytes cells → (f : ℕ) → boundBytes image cells f .1 ≡ cells
+  -- "statements plus passes, the larger arm of each if, callees included": the cost is what the longest path takes, one arm of each if, whichever.
+  pub longest-path : (image : List ℕ) (tree : Image) → AdmissibleBytes image tree → (f : ℕ) → LongestPath (tree .procedures) f (stepBound tree f)
+  -- "from the image alone": what the cells hold plays no part.
+  pub from-image-alone : (image cells cells′ : List ℕ) (f : ℕ) → length (wordsOf cells) ≡ length (wordsOf cells′)
+      → boundBytes image cells f .0 ≡ boundBytes image cells′ f .0
+  -- "No call takes more steps": on any cells, with any arguments, budget and trace; one that is stopped neither.
+  pub bound-holds : (image cells : List ℕ) (f bound : ℕ) → boundBytes image cells f .0 ≡ Done bound 0 0
+      → (cells′ arguments : List ℕ) (budget : ℕ) (trace : List ℕ) → stepsOf (callBytes image cells′ f arguments budget trace .0) ≤ bound
+  -- "a budget of at least the bound never gives 21"
+  pub bound-enough : (image cells : List ℕ) (f bound : ℕ) → boundBytes image cells f .0 ≡ Done bound 0 0
+      → (cells′ arguments : List ℕ) (budget : ℕ) (trace : List ℕ) → bound ≤ budget
+      → (p z n : ℕ) → callBytes image cells′ f arguments budget trace .0 ≡ Stopped 21 p z n → ⊥
+  -- "Where neither the procedure nor any it calls .. has an if, or a return other than as the body's last statement, a call that ends with a result takes
+  -- exactly that many."
+  pub bound-exact : (image cells : List ℕ) (f bound : ℕ) → boundBytes image cells f .0 ≡ Done bound 0 0
+      → (tree : Image) (n : ℕ) → admitted (wholeWords image) (wordsOf image) ≡ got tree n → Straight (tree .procedures) f
+      → (cells′ arguments : List ℕ) (budget : ℕ) (trace : List ℕ) (v z m : ℕ) → callBytes image cells′ f arguments budget trace .0 ≡ Done v z m → z ≡ bound
+
+pub wish-11 : Wish11
+wish-11 =
+    record {
+      bounded-exactly = λ image cells b f.
+          record {
+            refused-where = bound-refused-exactly image cells f;
+            done-where = bound-is-done image cells f b;
+            no-third = bounded-or-not image cells f;
+          };
+      leaves-cells = λ image cells b f. bound-leaves image cells f b;
+      longest-path = λ image tree a f. longest-path tree (a .limits) f;
+      from-image-alone = from-image-alone;
+      bound-holds = bound-holds;
+      bound-enough = bound-enough;
+      bound-exact = bound-exact;
+    }
+
 -- ======== Document 02, wish 13
 -- "The board probe records the same calls without us, but sees only branches, indices and calls, with their values and no places. Hold its recording
 -- against the machine's trace: they agree exactly when the trace's entries of kinds 1, 4 and 7, places removed, are the probe's entries in order.
@@ -500,6 +551,8 @@ pub record Functions : Type 0 where
   pub previews : (image cells : List ℕ) (f : ℕ) (arguments : List ℕ) (budget : ℕ) (trace answer trace′ answer′ : List ℕ) → 28 ≤ length answer
       → Previews image cells f arguments budget trace answer trace′ answer′
       → _≡_ {A = Called} (answerIn answer′, cells, trace′) (previewBytes image cells f arguments budget trace)
+  pub bounds : (image cells : List ℕ) (f : ℕ) (answer answer′ : List ℕ) → 28 ≤ length answer → Bounds image cells f answer answer′
+      → _≡_ {A = Answer × List ℕ} (answerIn answer′, cells) (boundBytes image cells f)
   pub compares : (trace probe answer answer′ : List ℕ) → 28 ≤ length answer → Compares trace probe answer answer′
       → comparedIn answer′ ≡ compareBytes trace probe
 
@@ -517,5 +570,6 @@ functions =
           call-read answer answer′ room (callBytes image cells f arguments budget trace) cells′ trace′ c t a;
       previews = λ image cells f arguments budget trace answer trace′ answer′ room (c, t, a).
           call-read answer answer′ room (previewBytes image cells f arguments budget trace) cells trace′ c t a;
+      bounds = λ image cells f answer answer′ room (c, b). request-read answer answer′ room (boundBytes image cells f) cells c b;
       compares = λ trace probe answer answer′ room a. compare-read answer answer′ room (compareBytes trace probe) a;
     }

@@ -15,8 +15,10 @@ use Rattle.definitions.specs.Reading.{Parse, readImage}
 use Rattle.definitions.specs.Checking.{withoutFault, admitted, verdict, checked}
 use Rattle.definitions.specs.Compiling.{compiledTree, compiled}
 use Rattle.definitions.specs.Describing.{describedTree, described}
-use Rattle.definitions.specs.Requests.{Ready, Called, withCells, readyToLoad, readyToServe, calledOn, servedCall, call, preview}
+use Rattle.definitions.specs.Requests.{Ready, Called, withCells, readyToLoad, readyToServe, served, calledOn, servedCall, call, preview}
+use Rattle.definitions.specs.Requests.{boundOn, bound}
 use Rattle.definitions.specs.Host.{wholeWords, checkBytes, compileBytes, describeBytes, callBytes, previewBytes}
+use Rattle.definitions.specs.Host.{onCells, boundBytes}
 use Rattle.laws.specs.WordsOfBytes.{length-wordsOf}
 use Rattle.requests.specs.LongImages.{front, wholeAndShort, same-read}
 
@@ -90,6 +92,11 @@ module _ (image : List ℕ) (h : 65540 < length image) where
     not-empty (wholeWords (take 65540 image)) (length (wordsOf (take 65540 image))) (let m = first-many in omega arith),
     not-empty (wholeWords image) (length (wordsOf image)) (let m = words-many in omega arith),
   ) (first-loadable count)
+
+  pub first-bounded : (cells : List ℕ) (f : ℕ) → boundBytes (take 65540 image) cells f ≡ boundBytes image cells f
+  unfolding boundBytes bound
+  first-bounded cells f =
+      ap (λ (x : Ready). onCells cells (served x (wordsOf cells) (λ m. (boundOn m f, wordsOf cells)))) (first-served (length (wordsOf cells)))
 
   module _ (cells : List ℕ) (f : ℕ) (arguments : List ℕ) (budget : ℕ) (trace : List ℕ) where
     -- on words

@@ -98,11 +98,11 @@ why-refused {Not} (inl (n, q, h)) x refuses serves k p e =
 why-refused (inr (tree, u)) x refuses serves k p e = absurd (serves tree u k p e)
 
 -- so it is refused exactly there
-refused-exactly : {Not : ℕ → ℕ → Type 0} {Fine : Image → Type 0} → RefusedOr Not Fine → (x : Answer) → ((k p : ℕ) → Not k p → x ≡ Refused k p)
+pub refused-exactly : {Not : ℕ → ℕ → Type 0} {Fine : Image → Type 0} → RefusedOr Not Fine → (x : Answer) → ((k p : ℕ) → Not k p → x ≡ Refused k p)
     → ((tree : Image) → Fine tree → (k p : ℕ) → x ≡ Refused k p → ⊥) → (k p : ℕ) → Iff (x ≡ Refused k p) (Not k p)
 refused-exactly cases x refuses serves k p = (why-refused cases x refuses serves k p, refuses k p)
 
-done-not-refused : {x : Answer} {v z n : ℕ} → x ≡ Done v z n → (k p : ℕ) → x ≡ Refused k p → ⊥
+pub done-not-refused : {x : Answer} {v z n : ℕ} → x ≡ Done v z n → (k p : ℕ) → x ≡ Refused k p → ⊥
 done-not-refused e k p f = let z : _≡_ {A = ℕ} 0 1 = cc in omega arith
 
 -- ---- What the definitions take for ready
@@ -130,7 +130,7 @@ module _ (image cells : List ℕ) where
       go true false e f = refl
       go false c e f = refl
 
-  not-ready : {k p : ℕ} → NotReady image cells k p → readyToServe (wholeWords image) (wordsOf image) (length (wordsOf cells)) ≡ unready k p
+  pub not-ready : {k p : ℕ} → NotReady image cells k p → readyToServe (wholeWords image) (wordsOf image) (length (wordsOf cells)) ≡ unready k p
   unfolding readyToServe
   not-ready (empty-image e) =
       let count = length-wordsOf image in rw (eq-eqb (length image % 4) 0 (omega arith), eq-eqb (length (wordsOf image)) 0 (omega arith))

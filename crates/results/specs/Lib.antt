@@ -20,3 +20,7 @@ pub mod StoppedExactly
 pub mod PreviewedTraces
 pub mod WithinLimits
 pub mod CountsAdded
+pub mod BoundedRuns
+pub mod ExactRuns
+pub mod LongestPaths
+pub mod StepBounds

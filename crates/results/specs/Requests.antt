@@ -1,23 +1,27 @@
--- Requests: the places that load, clear, poke, peek and call answer, by whether the image is ready; of a call also its steps, its trace words and its
--- stops. Assumes nothing.
+-- Requests: the places that load, clear, poke, peek, bound and call answer, by whether the image is ready; of a call also its steps, its trace words and
+-- its stops. Assumes nothing.
 use mathlib.Core.Path.{_≡_, refl, _∙_}
 use mathlib.Core.Bool.{Bool, true, false, _&&_}
 use mathlib.Core.List.{List, [], _∷_, _++_}
-use Prim.Native.Nat.{ℕ, _+_, _*_, _%_, _≤_, _<_}
+use Prim.Native.Nat.{ℕ, zero, suc, _+_, _*_, _%_, _≤_, _<_}
 use native.Mathlib.Omega.{arith}
 use borrow.Author.Tests.{ltb-true, ltb-false}
 use lib.Dec.{ltb, leb, eqb}
 use lib.ListN.{length, getD, set, length-set, length-append}
 use Rattle.definitions.specs.Choice.{pick}
+use Rattle.definitions.specs.declared.Answer.{Answer}
 use Rattle.definitions.specs.declared.Answer.the-variants.{Refused}
+use Rattle.definitions.specs.Image.{Statement, assign, store, conditional, loop, return, call as callStatement, Block, done, sequence}
 use Rattle.definitions.specs.Image.{cellCount, baseOf, Procedure, Image, procedureAt}
 use Rattle.definitions.specs.Reading.{Parse}
 use Rattle.definitions.specs.Checking.{admitted}
 use Rattle.definitions.specs.Running.{traceWords, Ran, Given, gave}
 use Rattle.definitions.specs.Requests.{Ready, ready, unready, withCells, readyToLoad, readyToServe, Served, served}
 use Rattle.definitions.specs.Requests.{carriedOut, zeroed, load, clear, hasCell, poke, peek, Called, argumentValues}
-use Rattle.definitions.specs.Requests.{ended, calledOn, servedCall, call}
-use Rattle.laws.specs.Trees.{ProceduresPlaces}
+use Rattle.definitions.specs.Requests.{ended, calledOn, servedCall, call, bounded, boundOn, bound}
+use Rattle.definitions.specs.StepBounds.{constantBounds, statementVariableFors, blockVariableFors, procedureCost, reaches, calleesVariableFors, variableForsIn, variableFors}
+use Rattle.laws.specs.Trees.{StatementPlaces, in-assign, in-store, in-conditional, in-loop, in-return, in-call}
+use Rattle.laws.specs.Trees.{BlockPlaces, in-done, in-sequence, ProceduresPlaces, body-places}
 use Rattle.results.specs.WordsNamed.{AnyName, procedures-any}
 use Rattle.results.specs.Runs.{Claim, Runs, goes, halts, Gives, procedure-runs}
 use Rattle.results.specs.Answers.{Stop, budget-spent, trace-full, beyond-array, divisor-0, Recorded, Calls, ends, stops}
@@ -55,37 +59,100 @@ module _ {n : ℕ} (whole : Bool) (image : List ℕ) (a : Admits n (admitted who
 
 -- ---- Load, clear, poke, peek
 
-served-within : {n : ℕ} {x : Ready} (cells : List ℕ) (f : Image → Served) → Readies n x → ((tree : Image) → answerPlace (f tree .0) ≤ n)
+served-within : {n : ℕ} {x : Ready} (cells : List ℕ) (f : Image → Served) → Readies n x
+    → ((tree : Image) → ProceduresPlaces (λ p. p < n) (tree .procedures) → answerPlace (f tree .0) ≤ n)
     → answerPlace (served x cells f .0) ≤ n
 unfolding served
-served-within cells f (readies tree h) k = k tree
+served-within cells f (readies tree h) k = k tree h
 served-within cells f (readies-not i p h) k = h
 
 cell-within : (n v : ℕ) (after cells : List ℕ) (b : Bool) → answerPlace (pick {A = Served} b (carriedOut v, after) (Refused 17 0, cells) .0) ≤ n
 cell-within n v after cells true = omega arith
 cell-within n v after cells false = omega arith
 
+-- the fors that a bound names stand in the image
+data Each (R : ℕ → Type 0) : List ℕ → Type 0 where
+  none : Each R []
+  and : {p : ℕ} {ps : List ℕ} → R p → Each R ps → Each R (p ∷ ps)
+
+module _ {R : ℕ → Type 0} where
+  each-append : {l m : List ℕ} → Each R l → Each R m → Each R (l ++ m)
+  each-append none k = k
+  each-append (and r h) k = and r (each-append h k)
+
+  mutual
+    unfolding statementVariableFors blockVariableFors
+
+    statement-fors : (p : ℕ) (s : Statement) → R p → StatementPlaces R s → Each R (statementVariableFors p s)
+    statement-fors p (assign x v) r (in-assign e) = none
+    statement-fors p (store y j v) r (in-store i e) = none
+    statement-fors p (conditional d v w) r (in-conditional c a b) = each-append (block-fors v a) (block-fors w b)
+    statement-fors p (loop x f t v) r (in-loop d e b) = each-append (own (constantBounds f t)) (block-fors v b)
+      where
+        own : (k : Bool) → Each R (pick k [] (p ∷ []))
+        own true = none
+        own false = and r none
+    statement-fors p (return v) r (in-return e) = none
+    statement-fors p (callStatement f x vs) r (in-call es) = none
+
+    block-fors : (b : Block) → BlockPlaces R b → Each R (blockVariableFors b)
+    block-fors done in-done = none
+    block-fors (sequence p x y) (in-sequence r s b) = each-append (statement-fors p x r s) (block-fors y b)
+
+  module _ {ps : List Procedure} (h : ProceduresPlaces R ps) where
+    callees-fors : (f m : ℕ) → Each R (calleesVariableFors ps f m)
+    unfolding calleesVariableFors
+    callees-fors f zero = none
+    callees-fors f (suc m) = each-append (callees-fors f m) (own (reaches ps (suc f) f m))
+      where
+        own : (k : Bool) → Each R (pick k (variableForsIn ps m) [])
+        own true = block-fors (procedureAt ps m .body) (body-places h m)
+        own false = none
+
+    all-fors : (f : ℕ) → Each R (variableFors ps f)
+    all-fors f = each-append (block-fors (procedureAt ps f .body) (body-places h f)) (callees-fors f f)
+
+bounded-within : {n : ℕ} {l : List ℕ} → Each (λ p. p < n) l → (cost : ℕ) → answerPlace (bounded l cost) ≤ n
+unfolding bounded
+bounded-within {n} none cost = go (leb cost 4294967295)
+  where
+    go : (b : Bool) → answerPlace (pick b (carriedOut cost) (Refused 33 0)) ≤ n
+    go true = omega arith
+    go false = omega arith
+bounded-within (and r h) cost = omega arith
+
 module _ {n : ℕ} (whole : Bool) (image : List ℕ) (a : Admits n (admitted whole image)) (cells : List ℕ) where
+  pub bound-within : (f : ℕ) → answerPlace (bound whole image cells f .0) ≤ n
+  unfolding bound boundOn
+  bound-within f =
+      served-within cells (λ m. (boundOn m f, cells)) (readies-serve whole image a (length cells))
+      (λ tree h. go (ltb f (length (tree .procedures))) (bounded (variableFors (tree .procedures) f) (procedureCost (tree .procedures) (suc f) f))
+      (bounded-within (all-fors h f) (procedureCost (tree .procedures) (suc f) f)))
+    where
+      go : (b : Bool) (x : Answer) → answerPlace x ≤ n → answerPlace (pick b x (Refused 17 0)) ≤ n
+      go true x h = h
+      go false x h = omega arith
+
   pub load-within : answerPlace (load whole image cells .0) ≤ n
   unfolding load
-  load-within = served-within cells (λ i. (carriedOut 0, zeroed i cells)) (readies-load whole image a (length cells)) (λ tree. omega arith)
+  load-within = served-within cells (λ i. (carriedOut 0, zeroed i cells)) (readies-load whole image a (length cells)) (λ tree h. omega arith)
 
   pub clear-within : answerPlace (clear whole image cells .0) ≤ n
   unfolding clear
-  clear-within = served-within cells (λ i. (carriedOut 0, zeroed i cells)) (readies-serve whole image a (length cells)) (λ tree. omega arith)
+  clear-within = served-within cells (λ i. (carriedOut 0, zeroed i cells)) (readies-serve whole image a (length cells)) (λ tree h. omega arith)
 
   pub poke-within : (b i v : ℕ) → answerPlace (poke whole image cells b i v .0) ≤ n
   unfolding poke
   poke-within b i v =
       served-within cells (λ m. pick (hasCell m b i) (carriedOut 0, set cells (baseOf (m .arrays) b + i) v) (Refused 17 0, cells))
-      (readies-serve whole image a (length cells)) (λ tree. cell-within n 0 (set cells (baseOf (tree .arrays) b + i) v) cells (hasCell tree b i))
+      (readies-serve whole image a (length cells)) (λ tree h. cell-within n 0 (set cells (baseOf (tree .arrays) b + i) v) cells (hasCell tree b i))
 
   pub peek-within : (b i : ℕ) → answerPlace (peek whole image cells b i .0) ≤ n
   unfolding peek
   peek-within b i =
       served-within cells (λ m. pick (hasCell m b i) (carriedOut (getD cells (baseOf (m .arrays) b + i) 0), cells) (Refused 17 0, cells))
       (readies-serve whole image a (length cells))
-      (λ tree. cell-within n (getD cells (baseOf (tree .arrays) b + i) 0) cells cells (hasCell tree b i))
+      (λ tree h. cell-within n (getD cells (baseOf (tree .arrays) b + i) 0) cells cells (hasCell tree b i))
 
 -- ---- Call
 

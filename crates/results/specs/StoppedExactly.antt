@@ -39,12 +39,12 @@ use Rattle.results.specs.Runs.{Claim, Runs, goes, halts, Gives, procedur
 -- ---- two calls on words that differ only in the budget and in the room for trace words
 
 -- how a call runs the procedure that it names
-abbrev runOf : Image → List ℕ → ℕ → List ℕ → ℕ → ℕ → Ran (List ℕ) Given
+abbrev pub runOf : Image → List ℕ → ℕ → List ℕ → ℕ → ℕ → Ran (List ℕ) Given
 runOf tree cells f arguments budget room =
     runProcedure (traceWords room) budget (tree .arrays) (tree .procedures) (length (tree .procedures)) f
     (argumentValues (procedureAt (tree .procedures) f .types) arguments) 0 [] cells
 
-both-calls : (P : Called → Called → Type 0) (whole : Bool) (words cells : List ℕ) (f : ℕ) (arguments : List ℕ)
+pub both-calls : (P : Called → Called → Type 0) (whole : Bool) (words cells : List ℕ) (f : ℕ) (arguments : List ℕ)
     → ((k p : ℕ) → P (Refused k p, cells, []) (Refused k p, cells, [])) → (b b′ r r′ : ℕ)
     → ((tree : Image) (n : ℕ) → admitted whole words ≡ got tree n
     → P (ended (procedureAt (tree .procedures) f) cells (runOf tree cells f arguments b r))

@@ -3,25 +3,23 @@
 use mathlib.Core.Path.{_≡_, refl}
 use mathlib.Core.Bool.{Bool, true, false}
 use mathlib.Core.List.{List, [], _∷_, flatMap}
-use Prim.Native.Nat.{ℕ, zero, suc, _+_, _≤_, _<_}
-use native.Mathlib.Omega.{arith}
+use Prim.Native.Nat.{ℕ, zero, suc, _+_, _<_}
 use borrow.Author.Tests.{leb-true, leb-false}
 use lib.Dec.{leb}
-use lib.ListN.{length, getD, set}
+use lib.ListN.{length, getD, set, List·getD-eq-default}
 use Rattle.definitions.specs.Image.{kindOf, payloadOf, blockWord, statementWord, expressionWord, rawWord}
 use Rattle.definitions.specs.Image.{calledOf, largestLevel, Expression, constant, boolean, variable, cell, unary, binary}
 use Rattle.definitions.specs.Image.{select, Statement, assign, store, conditional, loop, return, call, Block, done}
-use Rattle.definitions.specs.Image.{sequence, Procedure, Image, procedureAt}
+use Rattle.definitions.specs.Image.{sequence, Procedure, Image, procedureAt, noProcedure}
 use Rattle.definitions.specs.Reading.{got, refused, Reader, expressionAt, readExpression, readArguments, statementAt}
 use Rattle.definitions.specs.Reading.{readStatements, readStatement, readBlock, readImage}
 use Rattle.definitions.specs.Sorts.{sortFaults, argumentFaults, statementSortFaults, blockSortFaults, procedureSortFaults}
 use Rattle.definitions.specs.Sorts.{proceduresSortFaults, imageSortFaults, inside}
 use Rattle.laws.specs.Tests.{kept, nil-left, empties}
 use Rattle.laws.specs.WordTests.{kinds, ops, statement-kind}
-use Rattle.statements.specs.Limits.{arityOf}
 use Rattle.statements.specs.Statements.{NamesArray, in-expression, in-store}
-use Rattle.laws.specs.Reads.{Arities, Reads, reads, refuses, read-as, too-deep, reads-then, reads-word}
-use Rattle.laws.specs.ReadImages.{open-image}
+use Rattle.laws.specs.Reads.{Reads, reads, refuses, read-as, too-deep, reads-then, reads-word}
+use Rattle.laws.specs.ReadImages.{open-image, arities, arities-known}
 
 -- what a word names: an array, or the operator of a binary expression
 pub data WordName : Type 0 where
@@ -230,30 +228,14 @@ module _ (image : List ℕ) where
           reads-word image at blockWord (λ w. readStatements (payloadOf w) (λ a. readStatement l params me image a) (at + 1))
           (λ h g. statements-names (payloadOf (getD image at 0)) (λ a. readStatement l params me image a) (λ a. statement-names l a) (at + 1))
 
--- the procedures' numbers of parameters, as a table
-arities : List Procedure → List ℕ
-arities [] = []
-arities (p ∷ ps) = p .parameters ∷ arities ps
-
-arities-known : (ps : List Procedure) → Arities (arities ps) (length ps) (arityOf ps)
-unfolding arities
-arities-known [] f h = absurd (omega arith)
-arities-known (p ∷ ps) zero h = refl
-arities-known (p ∷ ps) (suc f) h = arities-known ps f (omega arith)
-
-no-body : (N : ℕ → WordName → Type 0) (ps : List Procedure) (f : ℕ) → length ps ≤ f → BlockNames N (procedureAt ps f .body)
-unfolding BlockNames
-no-body N [] f h = tt
-no-body N (p ∷ ps) zero h = absurd (omega arith)
-no-body N (p ∷ ps) (suc f) h = no-body N ps f (omega arith)
-
 module _ (whole : Bool) (words : List ℕ) (tree : Image) (n : ℕ) (e : readImage whole words ≡ got tree n) where
   -- each array and operator that an image's tree names is the one that its word names
   pub procedures-names : ProceduresNames (Names words) (tree .procedures)
+  unfolding BlockNames
   procedures-names f = go (leb (length (tree .procedures)) f) refl
     where
       go : (b : Bool) → leb (length (tree .procedures)) f ≡ b → BlockNames (Names words) (procedureAt (tree .procedures) f .body)
-      go true h = no-body (Names words) (tree .procedures) f (leb-true _ _ h)
+      go true h = rw (List·getD-eq-default (tree .procedures) noProcedure (leb-true _ _ h)) tt
       go false h =
           let (m, p) = open-image whole words tree n e .each (arities (tree .procedures)) (arities-known (tree .procedures)) f (leb-false _ _ h) in
           let q = procedureAt (tree .procedures) f in

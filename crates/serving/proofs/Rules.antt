@@ -9,14 +9,14 @@ use lib.Seq.{length-take-le, take-all}
 use Rattle.definitions.specs.Choice.{pick}
 use Rattle.definitions.specs.Bytes.{Bytes, wordsOf, bytesOf, lent}
 use Rattle.definitions.specs.Image.{Image, baseOf}
-use Rattle.definitions.specs.Requests.{Served, Called, carriedOut, unready, readyToLoad, readyToServe, calledOn}
-use Rattle.definitions.specs.Host.{wholeWords, loadBytes, clearBytes, pokeBytes, peekBytes, callBytes, previewBytes}
+use Rattle.definitions.specs.Requests.{Served, Called, carriedOut, unready, readyToLoad, readyToServe, served, calledOn, boundOn, bound}
+use Rattle.definitions.specs.Host.{wholeWords, loadBytes, clearBytes, pokeBytes, peekBytes, callBytes, previewBytes, boundBytes}
 use Rattle.definitions.specs.declared.Answer.{Answer}
 use Rattle.definitions.specs.declared.Answer.the-variants.{Done, Stopped, Refused}
 use Rattle.laws.specs.ImageIn.{imageIn}
 use Rattle.laws.specs.Previews.{preview-is-call-on-a-copy}
 use Rattle.laws.specs.WordsOfBytes.{lent-front, length-wordsOf, lent-wordsOf}
-use Rattle.tables.specs.Table.{arraysIn}
+use Rattle.tables.specs.Table.{arraysIn, Known}
 use Rattle.tables.specs.Looking.{image-short}
 use Rattle.requests.specs.Cells.{hasCellIn}
 use Rattle.requests.specs.OwnCells.{clearOn, pokeOn, peekOn}
@@ -62,6 +62,10 @@ module _ (image cells : List ℕ) (bytes : Bytes cells) (r : Ready) (k p : ℕ) 
 
     pub peek-not : (a i : ℕ) → (Refused k p, cells) ≡ peekBytes image cells a i
     peek-not a i = sym (peek-refused cells bytes image k p not-ready a i)
+
+    pub bound-not : (g : ℕ) → (Refused k p, cells) ≡ boundBytes image cells g
+    unfolding boundBytes bound served
+    bound-not g = rw (not-ready, lent-wordsOf cells bytes)
 
     pub call-not : (g : ℕ) (arguments : List ℕ) (budget : ℕ) (trace : List ℕ) → (Refused k p, cells, trace) ≡ callBytes image cells g arguments budget trace
     call-not g arguments budget trace = sym (call-refused cells bytes image k p not-ready g arguments budget trace)
@@ -189,6 +193,16 @@ module _ (image cells words words′ table ends : List ℕ) (bytes : Bytes cells
         all = rw (o .spelled) (o .all);
       } in
       (rw call-words s, o .few, o .enough)
+
+  pub bound-known : Known (take (length image / 4) words′) table
+  bound-known = rw call-words (call-own .known)
+
+  pub bound-done : (answer : Answer) (g : ℕ) → answer ≡ boundOn (imageIn (take (length image / 4) words′)) g → (answer, cells) ≡ boundBytes image cells g
+  unfolding boundBytes bound served
+  bound-done answer g d =
+      let o = call-own in
+      let same : imageIn (take (length image / 4) words′) ≡ o .tree = ap imageIn call-words ∙ o .spelled in
+      rw (d, same, o .is-ready, lent-wordsOf cells bytes)
 
   pub call-done : (answer : Answer) (after before trace : List ℕ) (g : ℕ) (arguments : List ℕ) (budget : ℕ)
       → (answer, after, trace)

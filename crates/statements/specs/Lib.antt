@@ -4,5 +4,6 @@ pub mod FormerTraces
 pub mod FormerIndices
 pub mod FormerNumbering
 pub mod Comparisons
+pub mod StepBounds
 pub mod Limits
 pub mod Statements

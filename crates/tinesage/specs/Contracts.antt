@@ -4,8 +4,8 @@ use mathlib.Core.Path.{_≡_}
 use mathlib.Core.List.{List}
 use Prim.Native.Nat.{ℕ}
 use Rattle.definitions.specs.declared.Answer.{Answer}
-use Rattle.definitions.specs.Host.{loadBytes, clearBytes, pokeBytes, peekBytes, callBytes, previewBytes, checkBytes, compileBytes}
-use Rattle.definitions.specs.Host.{describeBytes, compareBytes, answerWords, checkedWords, compiledWords, comparedWords, answerBytes}
+use Rattle.definitions.specs.Host.{loadBytes, clearBytes, pokeBytes, peekBytes, callBytes, previewBytes, boundBytes, checkBytes}
+use Rattle.definitions.specs.Host.{compileBytes, describeBytes, compareBytes, answerWords, checkedWords, compiledWords, comparedWords, answerBytes}
 
 -- the slice lent for the answer holds the answer's seven words, where there is room for them
 abbrev pub Answers : Answer → List ℕ → List ℕ → Type 0
@@ -54,6 +54,11 @@ abbrev pub Previews : List ℕ → List ℕ → ℕ → List ℕ → ℕ → Lis
 Previews image cells procedure arguments budget trace answer trace′ answer′ =
     (cells ≡ previewBytes image cells procedure arguments budget trace .1) × (trace′ ≡ previewBytes image cells procedure arguments budget trace .2)
     × Answers (previewBytes image cells procedure arguments budget trace .0) answer answer′
+
+-- tinesage_bound, which lends its cells to be read: the definition's cells afterwards are those before
+abbrev pub Bounds : List ℕ → List ℕ → ℕ → List ℕ → List ℕ → Type 0
+Bounds image cells procedure answer answer′ =
+    (cells ≡ boundBytes image cells procedure .1) × Answers (boundBytes image cells procedure .0) answer answer′
 
 -- tinesage_compare, which is lent a trace and a recording to be read
 abbrev pub Compares : List ℕ → List ℕ → List ℕ → List ℕ → Type 0

@@ -1,6 +1,6 @@
 // The library's C functions. Slices cross as a pointer and a length in bytes, words most significant byte first. Each writes its answer as seven
 // words into the slice lent for it. No function has a condition: every number and every byte gets its answer.
-ghost use Rattle.tinesage.specs.Contracts.{Checks, Compiles, Describes, Loads, Clears, Pokes, Peeks, Calls, Previews, Compares};
+ghost use Rattle.tinesage.specs.Contracts.{Checks, Compiles, Describes, Loads, Clears, Pokes, Peeks, Calls, Previews, Bounds, Compares};
 
 // Checks an image.
 #[no_mangle]
@@ -111,6 +111,15 @@ pub extern "C" fn tinesage_preview(
         (now (trace .exit)) (now (answer .exit)) ⌝ }
 {
     let a = serving::previews::preview(image, cells, procedure, arguments, budget, trace);
+    answers::put_answer(answer, a);
+}
+
+// Says how many steps a call of a procedure takes at most.
+#[no_mangle]
+pub extern "C" fn tinesage_bound(image: &[u8], cells: &[u8], procedure: u32, answer: &mut [u8])
+    ensures { λ _. ⌜ Bounds (now (image .entry)) (now (cells .entry)) procedure (now (answer .entry)) (now (answer .exit)) ⌝ }
+{
+    let a = serving::bounds::bound(image, cells, procedure);
     answers::put_answer(answer, a);
 }
 

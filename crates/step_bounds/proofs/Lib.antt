@@ -1,0 +1,4 @@
+pub mod Rules
+pub mod Blocks
+pub mod SmallRules
+pub mod ProcedureRules

@@ -1,0 +1,4 @@
+pub mod Counting
+pub mod Capping
+pub mod Ranks
+pub mod Summaries
