@@ -40,9 +40,9 @@ extern "C" {
 
 /* The version of this interface. A new major number may break a host, a new minor number adds. */
 #define TINESAGE_VERSION_MAJOR 2
-#define TINESAGE_VERSION_MINOR 5
+#define TINESAGE_VERSION_MINOR 6
 #define TINESAGE_VERSION_PATCH 0
-#define TINESAGE_VERSION "2.5.0"
+#define TINESAGE_VERSION "2.6.0"
 
 /* ---- sizes ---- */
 

@@ -14,6 +14,7 @@
 #include <string.h>
 
 #include "tinesage.h"
+#include "tinesage_padding.h"
 
 /* ---- images ---- */
 
@@ -290,17 +291,18 @@ static bool admitted(const struct shape *s)
 
 /* ---- the functions, each on a thread of its own ---- */
 
-/* all before the last take an image */
-enum function { CHECK, COMPILE, DESCRIBE, LOAD, CLEAR, POKE, PEEK, CALLED, PREVIEWED, BOUNDED, COMPARED, FUNCTIONS };
+/* all before the last two take an image */
+enum function { CHECK, COMPILE, DESCRIBE, LOAD, CLEAR, POKE, PEEK, CALLED, PREVIEWED, BOUNDED, COMPARED, UNPADDED, FUNCTIONS };
 static const char *const function_names[] = {"tinesage_check", "tinesage_compile", "tinesage_describe", "tinesage_load",
                                              "tinesage_clear", "tinesage_poke",    "tinesage_peek",     "tinesage_call",
-                                             "tinesage_preview", "tinesage_bound", "tinesage_compare"};
+                                             "tinesage_preview", "tinesage_bound", "tinesage_compare",
+                                             "tinesage_unpadded_length"};
 
 /* what docs/STACK.md states, in bytes */
 static const size_t bounds[FUNCTIONS] = {[CHECK] = 112 << 10, [COMPILE] = 192 << 10, [DESCRIBE] = 112 << 10,
                                          [LOAD] = 112 << 10,  [CLEAR] = 112 << 10,   [POKE] = 112 << 10,
                                          [PEEK] = 112 << 10,  [CALLED] = 384 << 10,  [PREVIEWED] = 384 << 10,
-                                         [BOUNDED] = 112 << 10, [COMPARED] = 4 << 10};
+                                         [BOUNDED] = 112 << 10, [COMPARED] = 4 << 10, [UNPADDED] = 16 << 10};
 
 /* the same for images of at most SHORT words; the compiler has none, since its result may be long */
 #define SHORT 512
@@ -341,6 +343,9 @@ static void *run(void *given)
     case COMPARED:
         tinesage_compare(trace, 2 * TINESAGE_TRACE_ENTRY * job->entries, out, TINESAGE_TRACE_ENTRY * job->entries,
                          job->answer, answer_len);
+        break;
+    case UNPADDED:
+        tinesage_put_word(job->answer, 0, tinesage_unpadded_length(cells, TINESAGE_BLOCK));
         break;
     case CALLED:
         tinesage_call(image, length, cells, sizeof cells, job->procedure, arguments, 4 * job->parameters, 1000000,
@@ -507,6 +512,30 @@ static void measure_comparisons(void)
         measure_comparison(entries);
 }
 
+/* a block of n cells of n, and with its first cell another */
+static void measure_block(uint32_t n, uint32_t first, uint32_t due)
+{
+    static const struct image none;
+    struct job job = {UNPADDED, &none, 0, 0, 0, NULL, {0}};
+    for (uint32_t i = 0; i < TINESAGE_BLOCK_CELLS; i++)
+        tinesage_put_word(cells, i, i == 0 ? first : n);
+    size_t bytes = need(&job);
+    if (tinesage_word(job.answer, 0) != due) {
+        printf("FAILED: %s answers %u\n", function_names[UNPADDED], (unsigned)tinesage_word(job.answer, 0));
+        failed++;
+        return;
+    }
+    runs++;
+    keep(&largest[UNPADDED], bytes, &(struct shape){0});
+}
+
+static void measure_blocks(void)
+{
+    measure_block(16, 16, 0);
+    measure_block(16, 15, TINESAGE_NOT_PADDED);
+    measure_block(0, 0, TINESAGE_NOT_PADDED);
+}
+
 static void measure_shapes(uint32_t form, bool longest_image)
 {
     for (int nest = 0; nest < NESTS; nest++)
@@ -545,6 +574,7 @@ int main(void)
         measure_shapes(form, true);
     }
     measure_comparisons();
+    measure_blocks();
     puts("| function | of | image | bytes |\n| --- | --- | --- | ---: |");
     for (int f = CHECK; f < COMPARED; f++) {
         print_row("all images", (enum function)f, &largest[f]);
@@ -555,12 +585,14 @@ int main(void)
     }
     printf("| %s | recordings of up to %zu entries | | %zu |\n", function_names[COMPARED], MOST_ENTRIES,
            largest[COMPARED].bytes);
+    printf("| %s | blocks | | %zu |\n", function_names[UNPADDED], largest[UNPADDED].bytes);
     for (int f = CHECK; f < COMPARED; f++) {
         judge("all images", (enum function)f, &largest[f], bounds[f]);
         if (f != COMPILE)
             judge("short images", (enum function)f, &shorter[f], short_bounds[f]);
     }
     judge("all recordings", COMPARED, &largest[COMPARED], bounds[COMPARED]);
+    judge("blocks", UNPADDED, &largest[UNPADDED], bounds[UNPADDED]);
     free(stack);
     printf("%u runs\n", runs);
     printf("%u passed, %u failed\n", passed, failed);

@@ -3,6 +3,7 @@
 //!
 //! `second drive` answers request lines from standard input.
 //! `second generate SEED COUNT` prints about COUNT request lines.
+//! `second blocks` prints padded blocks, whole and damaged, with their answers.
 
 mod bounds;
 mod check;
@@ -18,6 +19,7 @@ mod limits;
 mod machine;
 mod neighbours;
 mod operators;
+mod padding;
 mod probe;
 mod program;
 mod protocol;
@@ -41,6 +43,7 @@ fn main() -> ExitCode {
             (Ok(seed), Ok(count)) => generate::generate(seed, count, output),
             _ => return usage(),
         },
+        ["blocks"] => padding::blocks(output),
         _ => return usage(),
     };
     match done {
@@ -55,6 +58,6 @@ fn main() -> ExitCode {
 }
 
 fn usage() -> ExitCode {
-    eprintln!("usage: second drive | second generate SEED COUNT");
+    eprintln!("usage: second drive | second generate SEED COUNT | second blocks");
     ExitCode::from(2)
 }

@@ -75,6 +75,11 @@ unfolding wordsOf bytesOf
 words-first [] rest = refl
 words-first (w ∷ ws) rest = rw (joined-word4 w, words-first ws rest)
 
+-- and alone they are all that is read
+pub words-back : (ws : List ℕ) → wordsOf (bytesOf ws) ≡ ws
+unfolding wordsOf
+words-back ws = ap wordsOf (sym (append-nil (bytesOf ws))) ∙ words-first ws [] ∙ append-nil ws
+
 wordsOf-short : (b : List ℕ) → length b < 4 → wordsOf b ≡ []
 unfolding wordsOf
 wordsOf-short [] h = refl

@@ -68,6 +68,7 @@ use Rattle.results.specs.LongestPaths.{longest-path}
 use Rattle.results.specs.StepBounds.{bounded-or-not, bound-refused-exactly, bound-is-done, bound-leaves, from-image-alone, bound-holds, bound-enough, bound-exact}
 use Rattle.properties.specs.CompiledBytes.{target-accepted, target-tree, target-loads, same-meaning}
 use Rattle.secrecy.specs.Secrecy.{secrecy, served-to-the-end}
+use Rattle.padding.specs.Promise.{PaddingCheck, padding-check}
 use Rattle.promises.specs.Functions.{check-read, compile-read, request-read, call-read, compare-read}
 use Rattle.statements.specs.Statements
 
@@ -526,6 +527,16 @@ wish-13 =
       parted-there = parted-there;
       whole-entries = whole-entries;
     }
+
+-- ======== Document 02, wish 14
+-- "One product needs padding removed from a secret block of 16 cells, after the rule in RFC 5652, section 6.3. Build it as its own crate above the
+-- library, with the routine as a source image. Called as compiled, with the array, procedure, budget and trace length that the crate names, it answers 16
+-- minus n if the last cell is n, from 1 to 16, and the last n cells all hold n, otherwise 255. It records the same trace for every block." The clauses
+-- stand in that crate (padding/specs/Promise.antt), beside the rule, the routine and how it is called; its function answers the rule's number too
+-- (padding/specs/Contracts.antt).
+
+pub wish-14 : PaddingCheck
+wish-14 = padding-check
 
 -- ======== The C functions
 -- What a host reads in the 28 bytes or more that it lent for the answer, and what the lent slices hold, are the definition's: so each clause above is

@@ -2,7 +2,7 @@
 -- over the same cells, all of them 0 then; and it ends as its source ends. Assumes nothing.
 use Prim.Native.Nat.{ℕ, _*_, _%_, _≤_}
 use mathlib.Core.Bool.{true}
-use mathlib.Core.List.{List, [], _∷_, _++_, append-assoc, append-nil}
+use mathlib.Core.List.{List, [], _∷_, _++_, append-assoc}
 use mathlib.Core.Path.{_≡_, refl, sym, ap, _∙_}
 use native.Mathlib.Omega.{arith}
 use borrow.Author.Tests.{eq-eqb}
@@ -22,7 +22,7 @@ use Rattle.definitions.specs.Requests.{Called, call, preview}
 use Rattle.definitions.specs.Host.{wholeWords, checkBytes, compileBytes, loadBytes, clearBytes, pokeBytes, peekBytes}
 use Rattle.definitions.specs.Host.{callBytes, previewBytes}
 use Rattle.statements.specs.Statements.{AdmissibleBytes, cleared, EndAlike, withGuard, SameMeaning}
-use Rattle.laws.specs.WordsOfBytes.{length-bytesOf, bytesOf-append, words-first}
+use Rattle.laws.specs.WordsOfBytes.{length-bytesOf, bytesOf-append, words-back}
 use Rattle.laws.specs.Parses.{got-same}
 use Rattle.laws.specs.Admitted.{admit, admitted-read}
 use Rattle.readback.specs.Like.{LikeImage}
@@ -48,11 +48,7 @@ previews-alike : (image target cells : List ℕ) (f : ℕ) (arguments arguments�
 unfolding callBytes previewBytes preview
 previews-alike image target cells f arguments arguments′ budget budget′ trace trace′ (r, h) = (r, λ a b. (h a b .0, refl))
 
--- words written as bytes are read as those words, and are whole
-words-back : (ws : List ℕ) → wordsOf (bytesOf ws) ≡ ws
-unfolding wordsOf
-words-back ws = ap wordsOf (sym (append-nil (bytesOf ws))) ∙ words-first ws [] ∙ append-nil ws
-
+-- words written as bytes are whole
 whole-bytes : (ws : List ℕ) → wholeWords (bytesOf ws) ≡ true
 whole-bytes ws = let e = length-bytesOf ws in eq-eqb (length (bytesOf ws) % 4) 0 (omega arith)
 
