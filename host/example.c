@@ -5,9 +5,8 @@
  * of the images without a branch exactly as many. Then it loads an image with an array, pokes its cells and calls the
  * procedure that adds them up, with a trace slice just as long as a preview says that it has to be. Against a trace of
  * each image it holds two recordings of a board probe: one agrees, and one with another branch, or with indices in
- * another order, parts. It compiles an image that adds two long numbers under a secret condition, and calls it with both
- * values of the condition: the sum is stored or not, and the traces are equal to the last byte. Last it compiles one that
- * has the constants of SHA-256 as fixed arrays, so that no one pokes them, and prints the digest of a message.
+ * another order, parts. Last it compiles an image that adds two long numbers under a secret condition, and calls it
+ * with both values of the condition: the sum is stored or not, and the traces are equal to the last byte.
  */
 #include <stdio.h>
 #include <stdlib.h>
@@ -16,9 +15,6 @@
 #include "tinesage.h"
 
 #define TRACE_WORDS 128
-
-/* how many trace words a call of the image of SHA-256 records that takes in a block */
-#define SHA256_TRACE_WORDS 2204
 
 /* One secret parameter: returns 1 where it is 7, else 0. */
 static const uint32_t example[] = {
@@ -45,64 +41,12 @@ static const uint32_t carry[] = {
     0xA0000001, 0xD0000003, 0xB0000000, 0xA0000001, 0x7000FFFF, 0x50000000, 0x60040000, 0xB0000000, 0x70000004,
 };
 
-/*
- * Two fixed arrays, the constants of SHA-256, and three secret ones. Procedure 0 puts the first state into array 2;
- * procedure 1 takes in the block of 16 words in array 3. It is examples/sha256.image.
- */
-static const uint32_t sha256[] = {
-    0x10000502,
-    /* array 0: 64 constants, one for each round */
-    0x20020040,
-    0x428A2F98, 0x71374491, 0xB5C0FBCF, 0xE9B5DBA5, 0x3956C25B, 0x59F111F1, 0x923F82A4, 0xAB1C5ED5,
-    0xD807AA98, 0x12835B01, 0x243185BE, 0x550C7DC3, 0x72BE5D74, 0x80DEB1FE, 0x9BDC06A7, 0xC19BF174,
-    0xE49B69C1, 0xEFBE4786, 0x0FC19DC6, 0x240CA1CC, 0x2DE92C6F, 0x4A7484AA, 0x5CB0A9DC, 0x76F988DA,
-    0x983E5152, 0xA831C66D, 0xB00327C8, 0xBF597FC7, 0xC6E00BF3, 0xD5A79147, 0x06CA6351, 0x14292967,
-    0x27B70A85, 0x2E1B2138, 0x4D2C6DFC, 0x53380D13, 0x650A7354, 0x766A0ABB, 0x81C2C92E, 0x92722C85,
-    0xA2BFE8A1, 0xA81A664B, 0xC24B8B70, 0xC76C51A3, 0xD192E819, 0xD6990624, 0xF40E3585, 0x106AA070,
-    0x19A4C116, 0x1E376C08, 0x2748774C, 0x34B0BCB5, 0x391C0CB3, 0x4ED8AA4A, 0x5B9CCA4F, 0x682E6FF3,
-    0x748F82EE, 0x78A5636F, 0x84C87814, 0x8CC70208, 0x90BEFFFA, 0xA4506CEB, 0xBEF9A3F7, 0xC67178F2,
-    /* array 1: the first state */
-    0x20020008,
-    0x6A09E667, 0xBB67AE85, 0x3C6EF372, 0xA54FF53A, 0x510E527F, 0x9B05688C, 0x1F83D9AB, 0x5BE0CD19,
-    /* arrays 2 to 4: the state, the block and the schedule */
-    0x20010008, 0x20010010, 0x20010040,
-    /* procedure 0 */
-    0x30000001, 0x40000000, 0x40000000, 0x50000001, 0x60030000, 0x70000000, 0x70000008, 0x50000001, 0x60010002,
-    0xA0000000, 0xB0000001, 0xA0000000,
-    /* procedure 1 */
-    0x3000000B, 0x40000000, 0x40000000, 0x40000001, 0x40000001, 0x40000001, 0x40000001, 0x40000001, 0x40000001,
-    0x40000001, 0x40000001, 0x40000001, 0x40000001, 0x50000013, 0x60030000, 0x70000000, 0x70000010, 0x50000001,
-    0x60010004, 0xA0000000, 0xB0000003, 0xA0000000, 0x60030000, 0x70000000, 0x70000030, 0x50000003, 0x60000009,
-    0xB0000004, 0xD0000000, 0xA0000000, 0x70000001, 0x6000000A, 0xB0000004, 0xD0000000, 0xA0000000, 0x7000000E,
-    0x60010004, 0xD0000000, 0xA0000000, 0x70000010, 0xD0000000, 0xD0000005, 0xD0000008, 0xA000000A, 0x7000000F,
-    0xD0000005, 0xD0000008, 0xA000000A, 0x7000000D, 0xD0000007, 0xA000000A, 0x7000000A, 0xD0000000, 0xB0000004,
-    0xD0000000, 0xA0000000, 0x70000009, 0xD0000000, 0xD0000005, 0xD0000008, 0xA0000009, 0x70000019, 0xD0000005,
-    0xD0000008, 0xA0000009, 0x7000000E, 0xD0000007, 0xA0000009, 0x70000003, 0xB0000004, 0xA0000000, 0x60000001,
-    0xB0000002, 0x70000000, 0x60000002, 0xB0000002, 0x70000001, 0x60000003, 0xB0000002, 0x70000002, 0x60000004,
-    0xB0000002, 0x70000003, 0x60000005, 0xB0000002, 0x70000004, 0x60000006, 0xB0000002, 0x70000005, 0x60000007,
-    0xB0000002, 0x70000006, 0x60000008, 0xB0000002, 0x70000007, 0x60030000, 0x70000000, 0x70000040, 0x5000000A,
-    0x60000009, 0xD0000000, 0xA0000008, 0xD0000000, 0xD0000005, 0xD0000008, 0xA0000005, 0x7000001A, 0xD0000005,
-    0xD0000008, 0xA0000005, 0x70000015, 0xD0000008, 0xA0000005, 0x70000007, 0xD0000000, 0xD0000005, 0xD0000003,
-    0xA0000005, 0xA0000006, 0xD0000003, 0xC0000001, 0xA0000005, 0xA0000007, 0xD0000000, 0xB0000000, 0xA0000000,
-    0xB0000004, 0xA0000000, 0x6000000A, 0xD0000000, 0xD0000005, 0xD0000008, 0xA0000001, 0x7000001E, 0xD0000005,
-    0xD0000008, 0xA0000001, 0x70000013, 0xD0000008, 0xA0000001, 0x7000000A, 0xD0000005, 0xD0000003, 0xA0000001,
-    0xA0000002, 0xD0000005, 0xD0000003, 0xA0000001, 0xA0000003, 0xD0000003, 0xA0000002, 0xA0000003, 0x60000008,
-    0xA0000007, 0x60000007, 0xA0000006, 0x60000006, 0xA0000005, 0x60000005, 0xD0000000, 0xA0000004, 0xA0000009,
-    0x60000004, 0xA0000003, 0x60000003, 0xA0000002, 0x60000002, 0xA0000001, 0x60000001, 0xD0000000, 0xA0000009,
-    0xA000000A, 0x60010002, 0x70000000, 0xD0000000, 0xB0000002, 0x70000000, 0xA0000001, 0x60010002, 0x70000001,
-    0xD0000000, 0xB0000002, 0x70000001, 0xA0000002, 0x60010002, 0x70000002, 0xD0000000, 0xB0000002, 0x70000002,
-    0xA0000003, 0x60010002, 0x70000003, 0xD0000000, 0xB0000002, 0x70000003, 0xA0000004, 0x60010002, 0x70000004,
-    0xD0000000, 0xB0000002, 0x70000004, 0xA0000005, 0x60010002, 0x70000005, 0xD0000000, 0xB0000002, 0x70000005,
-    0xA0000006, 0x60010002, 0x70000006, 0xD0000000, 0xB0000002, 0x70000006, 0xA0000007, 0x60010002, 0x70000007,
-    0xD0000000, 0xB0000002, 0x70000007, 0xA0000008,
-};
-
 /* what this host lends */
 static uint8_t image[4 * TINESAGE_MOST_WORDS];
 static size_t image_length;
 static uint8_t cells[4 * TINESAGE_MOST_CELLS];
 static uint8_t trace[4 * TRACE_WORDS];
-/* the steps reserved for a call of a procedure */
+/* the steps reserved for a call of procedure 0 */
 static uint32_t budget;
 /* the trace words that the last call recorded; what stands behind them is none of its entries */
 static uint64_t recorded;
@@ -127,11 +71,11 @@ static void expect_done(const char *what, struct tinesage_answer a)
     exit(EXIT_FAILURE);
 }
 
-/* reserves the most steps that a call of a procedure can take */
-static void reserve(uint32_t procedure)
+/* reserves the most steps that a call of procedure 0 can take */
+static void reserve(void)
 {
     uint8_t answer[TINESAGE_ANSWER];
-    tinesage_bound(image, image_length, cells, sizeof cells, procedure, answer, sizeof answer);
+    tinesage_bound(image, image_length, cells, sizeof cells, 0, answer, sizeof answer);
     expect_done("bound", tinesage_read_answer(answer));
     budget = tinesage_read_answer(answer).result;
     printf("  reserved for a call: %u steps\n", (unsigned)budget);
@@ -142,7 +86,7 @@ static void load(void)
     uint8_t answer[TINESAGE_ANSWER];
     tinesage_load(image, image_length, cells, sizeof cells, answer, sizeof answer);
     expect_done("load", tinesage_read_answer(answer));
-    reserve(0);
+    reserve();
 }
 
 /* the compiled form is this host's image from then on */
@@ -290,43 +234,6 @@ static void add_under_condition(void)
     puts(memcmp(trace_without, trace, sizeof trace) == 0 ? "  the traces are equal" : "  the traces differ");
 }
 
-/* calls a procedure of SHA-256, which has no parameter and no result */
-static void call_sha256(uint32_t procedure)
-{
-    static uint8_t long_trace[4 * SHA256_TRACE_WORDS];
-    uint8_t answer[TINESAGE_ANSWER];
-    tinesage_call(image, image_length, cells, sizeof cells, procedure, NULL, 0, budget, long_trace, sizeof long_trace,
-                  answer, sizeof answer);
-    struct tinesage_answer a = tinesage_read_answer(answer);
-    expect_done("call", a);
-    printf("  procedure %u: %u steps, %u trace words\n", (unsigned)procedure, (unsigned)a.steps, (unsigned)a.count);
-}
-
-static uint32_t peek(uint32_t array, uint32_t index)
-{
-    uint8_t answer[TINESAGE_ANSWER];
-    tinesage_peek(image, image_length, cells, sizeof cells, array, index, answer, sizeof answer);
-    expect_done("peek", tinesage_read_answer(answer));
-    return tinesage_read_answer(answer).result;
-}
-
-/* the message is one block: its three bytes, a one bit, zeros, which the load has put, and the number of its bits */
-static void print_digest(void)
-{
-    take_image(sha256, sizeof sha256 / sizeof sha256[0]);
-    compile();
-    load();
-    call_sha256(0);
-    poke(3, 0, 0x61626380);
-    poke(3, 15, 24);
-    reserve(1);
-    call_sha256(1);
-    printf("  \"abc\":");
-    for (uint32_t i = 0; i < 8; i++)
-        printf(" %08x", (unsigned)peek(2, i));
-    puts("");
-}
-
 int main(void)
 {
     puts("The paper's example, as source:");
@@ -347,8 +254,5 @@ int main(void)
 
     puts("A number of 64 bits added to another under a secret condition, compiled:");
     add_under_condition();
-
-    puts("SHA-256 with its constants in fixed arrays, compiled:");
-    print_digest();
     return 0;
 }

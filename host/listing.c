@@ -23,9 +23,6 @@ struct array {
     uint32_t label, cells;
 };
 
-/* the label of an array whose cells are fixed */
-#define FIXED 2
-
 /* the image, how far it is read, and what the words before said of those to come */
 struct listing {
     FILE *out;
@@ -385,38 +382,23 @@ static bool list_procedure(struct listing *l)
     return true;
 }
 
-/* the words behind the word of a fixed array, one for each cell; they are of no kind, and any word can stand there */
-static bool list_table(struct listing *l, uint32_t array, uint32_t cells)
-{
-    for (uint32_t i = 0; i < cells; i++) {
-        char what[64];
-        snprintf(what, sizeof what, "fixed cell %u of array %u", (unsigned)i, (unsigned)array);
-        if (!take(l, 2, what))
-            return false;
-        open_line(l, 2);
-        fprintf(l->out, "%s: %u", what, (unsigned)word(l));
-        accept(l);
-    }
-    return true;
-}
-
 static bool list_array(struct listing *l)
 {
     if (!take(l, 1, "an array"))
         return false;
-    uint32_t label = payload(l) >> 16, cells = word(l) & 0xFFFF, number = l->arrays;
+    uint32_t label = payload(l) >> 16, cells = word(l) & 0xFFFF;
     if (kind(l) != 2)
         return reject_kind(l, 1, "an array");
-    if (label > FIXED || cells < 1 || cells > MOST_ARRAY_CELLS)
-        return reject_payload(l, 1, label == (FIXED | 1) ? "fixed and secret" : wrong_payload);
+    if (label > 1 || cells < 1 || cells > MOST_ARRAY_CELLS)
+        return reject_payload(l, 1, wrong_payload);
     if (l->cells + cells > TINESAGE_MOST_CELLS)
         return reject_payload(l, 1, "more than 1024 cells with those before");
-    l->array[l->arrays++] = (struct array){label, cells};
+    l->array[l->arrays] = (struct array){label, cells};
     l->cells += cells;
     open_line(l, 1);
-    fprintf(l->out, "array %u: %s, %u cell%s", (unsigned)number, label_names[label], (unsigned)cells, plural(cells));
-    accept(l);
-    return label != FIXED || list_table(l, number, cells);
+    fprintf(l->out, "array %u: %s, %u cell%s", (unsigned)l->arrays, label_names[label], (unsigned)cells, plural(cells));
+    l->arrays++;
+    return accept(l);
 }
 
 /* ---- the image ---- */

@@ -15,7 +15,7 @@ const char *const binary_names[BINARY_OPERATORS] = {
 
 const char *const type_names[4] = {"public word", "secret word", "public boolean", "secret boolean"};
 
-const char *const label_names[3] = {"public", "secret", "public and fixed"};
+const char *const label_names[2] = {"public", "secret"};
 
 const char *refusal_name(uint32_t number)
 {
@@ -35,7 +35,5 @@ const char *refusal_name(uint32_t number)
         "open procedure called in a secret context",
         "branch on a secret in compiled form",
     };
-    if (number == 30)
-        return "store in a fixed array";
     return names[number < sizeof names / sizeof names[0] ? number : 0];
 }

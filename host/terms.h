@@ -17,10 +17,10 @@ extern const char *const binary_names[BINARY_OPERATORS];
 /* label and sort of a type word's payload, 0 to 3 */
 extern const char *const type_names[4];
 
-/* label of an array, 0 to 2 */
-extern const char *const label_names[3];
+/* label of an array, 0 or 1 */
+extern const char *const label_names[2];
 
-/* what a refusal of an image means; for numbers other than 1 to 13 and 30 "unknown" */
+/* what a refusal of an image means; for numbers other than 1 to 13 "unknown" */
 const char *refusal_name(uint32_t number);
 
 #endif

@@ -40,9 +40,9 @@ extern "C" {
 
 /* The version of this interface. A new major number may break a host, a new minor number adds. */
 #define TINESAGE_VERSION_MAJOR 2
-#define TINESAGE_VERSION_MINOR 7
+#define TINESAGE_VERSION_MINOR 6
 #define TINESAGE_VERSION_PATCH 0
-#define TINESAGE_VERSION "2.7.0"
+#define TINESAGE_VERSION "2.6.0"
 
 /* ---- sizes ---- */
 
@@ -71,8 +71,8 @@ enum tinesage_status {
     TINESAGE_REFUSED = 2  /* nothing was done */
 };
 
-/* the second word of an answer that is refused; there is no 19, none from 21 to 29 and no 31: 21 to
-   24 are stops */
+/* the second word of an answer that is refused; there is no 19, and none from 21 to 31: 21 to 24
+   are stops */
 enum tinesage_refusal {
     /* reading the image: the first fault */
     TINESAGE_REFUSAL_LENGTH = 1,         /* empty, too long, or not whole words */
@@ -98,8 +98,6 @@ enum tinesage_refusal {
     TINESAGE_REFUSAL_OUT_OF_RANGE = 17,   /* no such procedure, array or cell; too few cells lent */
     TINESAGE_REFUSAL_ARGUMENT_COUNT = 18, /* another number of arguments than of parameters */
     TINESAGE_REFUSAL_NOT_LOADED = 20,     /* the image is empty: nothing has been loaded */
-    /* fixed arrays: of an image in the group of 6 to 8, on one word after them; of a poke after 17 */
-    TINESAGE_REFUSAL_FIXED_ARRAY = 30, /* a store or a poke into a fixed array */
     /* the bound of a procedure */
     TINESAGE_REFUSAL_UNBOUNDED_LOOP = 32, /* a for whose bounds are not both constants */
     TINESAGE_REFUSAL_BOUND_TOO_LARGE = 33 /* more than 4,294,967,295 steps */
@@ -196,7 +194,7 @@ static inline struct tinesage_trace_entry tinesage_read_entry(const uint8_t *tra
  * Checks an image, in source or compiled form.
  *
  * Done: the rules admit it; result, steps and count are 0.
- * Refused: 1 to 13, or 30, a store into a fixed array.
+ * Refused: 1 to 13.
  * Written: the answer.
  */
 void tinesage_check(const uint8_t *image, size_t image_len, uint8_t *answer, size_t answer_len);
@@ -206,8 +204,9 @@ void tinesage_check(const uint8_t *image, size_t image_len, uint8_t *answer, siz
  * a secret.
  *
  * Done: count is the number of words written; result and steps are 0.
- * Refused: as by tinesage_check; then 14, the image is in compiled form already; 15, the result
- *   would have more than TINESAGE_MOST_WORDS words; 16, `out` has fewer words than the result.
+ * Refused: 1 to 13 as by tinesage_check; then 14, the image is in compiled form already; 15, the
+ *   result would have more than TINESAGE_MOST_WORDS words; 16, `out` has fewer words than the
+ *   result.
  * Written: the answer; where done, the first `count` words of `out`: the compiled image. Room for
  *   TINESAGE_MOST_WORDS words is always enough. After a refusal `out` is as before.
  */
@@ -223,7 +222,7 @@ void tinesage_compile(const uint8_t *image, size_t image_len, uint8_t *out, size
  *     1                       A, the number of arrays
  *     2                       P, the number of procedures
  *     3                       the number of cells of all arrays together
- *     4 + 2 * a               array a, from 0: its label, 0 public, 1 secret, 2 public and fixed
+ *     4 + 2 * a               array a, from 0: its label, 0 public, 1 secret
  *     4 + 2 * a + 1           its length in cells
  *     4 + 2 * A + 12 * f      procedure f, from 0: its mode, 0 open, 1 guarded
  *       + 1                   the number of its parameters, at most 9: a call takes as many arguments
@@ -233,7 +232,7 @@ void tinesage_compile(const uint8_t *image, size_t image_len, uint8_t *out, size
  * A type is sort * 2 + label: 0 public word, 1 secret word, 2 public boolean, 3 secret boolean.
  *
  * Done: count is the number of words written, 4 + 2 * A + 12 * P; result and steps are 0.
- * Refused: as by tinesage_check; then 16, `out` has fewer words than the description.
+ * Refused: 1 to 13 as by tinesage_check; then 16, `out` has fewer words than the description.
  * Written: the answer; where done, the first `count` words of `out`: the description. Room for
  *   TINESAGE_MOST_DESCRIPTION words is always enough. After a refusal `out` is as before.
  */
@@ -244,17 +243,16 @@ void tinesage_describe(const uint8_t *image, size_t image_len, uint8_t *out, siz
  * Loads an image: where done, the host lends this image with the requests below from now on.
  *
  * Done: result, steps and count are 0.
- * Refused: as by tinesage_check; then 17, `cells` has fewer words than the arrays of the image
- *   together. The image that was in force stays so.
- * Written: the answer; where done, the cells of the image's arrays: those of a fixed array hold the
- *   words of its table, all others are 0. The words after them stay. After a refusal `cells` is as
- *   before.
+ * Refused: 1 to 13 as by tinesage_check; then 17, `cells` has fewer words than the arrays of the
+ *   image together. The image that was in force stays so.
+ * Written: the answer; where done, the cells of the image's arrays are 0, and the words after them
+ *   stay. After a refusal `cells` is as before.
  */
 void tinesage_load(const uint8_t *image, size_t image_len, uint8_t *cells, size_t cells_len,
                    uint8_t *answer, size_t answer_len);
 
 /*
- * Sets the cells of the image's arrays to what a load puts there.
+ * Sets the cells of the image's arrays to 0.
  *
  * Done and written: as by tinesage_load.
  * Refused: 20, the image is empty (nothing has been loaded); then as by tinesage_load.
@@ -266,8 +264,7 @@ void tinesage_clear(const uint8_t *image, size_t image_len, uint8_t *cells, size
  * Writes one cell.
  *
  * Done: result, steps and count are 0.
- * Refused: as by tinesage_clear; then 17, no such array, or no such cell in it; 30, the array is
- *   fixed.
+ * Refused: as by tinesage_clear; then 17, no such array, or no such cell in it.
  * Written: the answer; where done, the cell `index` of the array `array` holds `value`. After a
  *   refusal `cells` is as before.
  */
@@ -278,8 +275,8 @@ void tinesage_poke(const uint8_t *image, size_t image_len, uint8_t *cells, size_
 /*
  * Reads one cell.
  *
- * Done: result is the cell's word, as it is lent; steps and count are 0.
- * Refused: as by tinesage_clear; then 17, no such array, or no such cell in it.
+ * Done: result is the cell's word; steps and count are 0.
+ * Refused: as by tinesage_poke.
  * Written: the answer.
  */
 void tinesage_peek(const uint8_t *image, size_t image_len, const uint8_t *cells, size_t cells_len,
@@ -291,9 +288,6 @@ void tinesage_peek(const uint8_t *image, size_t image_len, const uint8_t *cells,
  *
  * What an onlooker could learn is recorded in `trace`, in entries of two words, kind * 2^28 +
  * place, then value: enum tinesage_trace_kind. tinesage_read_entry takes an entry apart.
- *
- * Cells are read as they are lent, those of fixed arrays too, and no call changes a fixed one: a
- * host that lends the cells as the request before left them reads the tables' words in them.
  *
  * Done: result is the value returned, 0 or 1 for a boolean, 0 where the body falls off its end;
  *   steps and count are those of the run.

@@ -24,10 +24,6 @@ static const uint32_t five[] = {0x10000001, 0x30000001, 0x40000000, 0x40000000, 
 static const uint32_t cell[] = {0x10000101, 0x20000002, 0x30000100, 0x40000000, 0x40000000,
                                 0x50000001, 0x60040000, 0xB0000000, 0xA0000000};
 
-/* the same with a fixed array */
-static const uint32_t fixed_cell[] = {0x10000101, 0x20020002, 0xFFFFFFFF, 0x00000007, 0x30000100, 0x40000000,
-                                      0x40000000, 0x50000001, 0x60040000, 0xB0000000, 0xA0000000};
-
 /* a return of variable 0, of none */
 static const uint32_t undeclared[] = {0x10000001, 0x30000000, 0x40000000, 0x50000001, 0x60040000, 0xA0000000};
 
@@ -38,20 +34,17 @@ struct image {
     size_t count;
     size_t padding; /* so many statements `variable 0 := 0` are put before the return */
     uint32_t refusal, cells, parameters;
-    bool fixed; /* whether its cells are */
 };
 
 #define WORDS(w) w, sizeof w / sizeof w[0]
 
 /* with more than 512 words the library takes other arrays, and so another way: docs/STACK.md */
 static const struct image images[] = {
-    {"no array, no parameter", WORDS(five), 0, 0, 0, 0, false},
-    {"an array and a parameter", WORDS(cell), 0, 0, 2, 1, false},
-    {"a fixed array and a parameter", WORDS(fixed_cell), 0, 0, 2, 1, true},
-    {"no array, no parameter, long", WORDS(five), 600, 0, 0, 0, false},
-    {"an array and a parameter, long", WORDS(cell), 600, 0, 2, 1, false},
-    {"a fixed array and a parameter, long", WORDS(fixed_cell), 600, 0, 2, 1, true},
-    {"no such variable", WORDS(undeclared), 0, TINESAGE_REFUSAL_UNDECLARED, 0, 0, false},
+    {"no array, no parameter", WORDS(five), 0, 0, 0, 0},
+    {"an array and a parameter", WORDS(cell), 0, 0, 2, 1},
+    {"no array, no parameter, long", WORDS(five), 600, 0, 0, 0},
+    {"an array and a parameter, long", WORDS(cell), 600, 0, 2, 1},
+    {"no such variable", WORDS(undeclared), 0, TINESAGE_REFUSAL_UNDECLARED, 0, 0},
 };
 
 #define MOST_IMAGE 2048
@@ -210,8 +203,6 @@ static uint32_t number_due(const struct function *f, const struct image *image, 
         return TINESAGE_REFUSAL_OUT_OF_RANGE;
     if ((f->run == poke || f->run == peek) && image->cells == 0)
         return TINESAGE_REFUSAL_OUT_OF_RANGE;
-    if (f->run == poke && image->fixed)
-        return TINESAGE_REFUSAL_FIXED_ARRAY;
     if (f->run == call || f->run == preview)
         return number_of_call(image, empty);
     return (f->slices & 1 << OUT) != 0 && (empty & 1 << OUT) != 0 ? TINESAGE_REFUSAL_OUTPUT_TOO_SHORT : 0;

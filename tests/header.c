@@ -1,8 +1,8 @@
 /*
  * The header beside the library: its limits are those at which the checker turns from accepting to refusing, its
- * functions take answers and trace entries apart as the library writes them, what previews, comparisons and bounds
- * answer can be used as it says, and fixed arrays are described, loaded and left as it says. Prints 'N passed, M failed'
- * as its last line.
+ * functions take answers and trace entries apart as the library writes them, and what previews, comparisons and bounds
+ * answer can be used as it says. Prints 'N passed, M failed' as its last
+ * line.
  */
 #include <stdio.h>
 #include <stdlib.h>
@@ -70,9 +70,6 @@ static void version_case(void)
 static uint8_t image[4 * (TINESAGE_MOST_WORDS + 1)];
 static size_t count;
 
-/* the label of a fixed array */
-#define FIXED 2
-
 static void push(uint32_t word)
 {
     tinesage_put_word(image, count++, word);
@@ -85,38 +82,27 @@ static uint32_t checked(void)
     return tinesage_read_answer(answer).number;
 }
 
-/* an array word, and the table of a fixed array, whose words are of no kind */
-static void push_array(uint32_t label, uint32_t cells)
+/* procedure 0 is empty, procedure 1 has one local and calls it in each word of its body */
+static uint32_t with_words(uint32_t form, uint32_t words)
 {
-    push(0x20000000 | label << 16 | cells);
-    for (uint32_t i = 0; label == FIXED && i < cells; i++)
-        push(i);
-}
-
-/* fixed arrays of 256 cells; procedure 0 is empty, procedure 1 has one local and calls it in each word of its body */
-static uint32_t with_words(uint32_t form, uint32_t tables, uint32_t words)
-{
-    static const uint32_t procedures[] = {0x30000000, 0x40000000, 0x50000000, 0x30000001, 0x40000000, 0x40000000};
+    static const uint32_t start[] = {0x10000002, 0x30000000, 0x40000000, 0x50000000,
+                                     0x30000001, 0x40000000, 0x40000000, 0x50000000};
     count = 0;
-    push(0x10000002 | form << 16 | tables << 8);
-    for (uint32_t i = 0; i < tables; i++)
-        push_array(FIXED, 256);
-    for (uint32_t i = 0; i < 6; i++)
-        push(procedures[i]);
-    push(0x50000000 | (words - (uint32_t)count - 1));
+    for (uint32_t i = 0; i < 8; i++)
+        push(start[i] + (i == 0 ? form << 16 : i == 7 ? words - 8 : 0));
     while (count < words)
         push(0x60050000);
     return checked();
 }
 
 /* as many arrays of 256 cells as fit, and one with the others */
-static uint32_t with_cells(uint32_t label, uint32_t cells)
+static uint32_t with_cells(uint32_t cells)
 {
     uint32_t arrays = (cells + 255) / 256;
     count = 0;
     push(0x10000001 + (arrays << 8));
     for (; cells > 0; cells -= cells < 256 ? cells : 256)
-        push_array(label, cells < 256 ? cells : 256);
+        push(0x20000000 + (cells < 256 ? cells : 256));
     push(0x30000000);
     push(0x40000000);
     push(0x50000000);
@@ -155,17 +141,12 @@ static void limit_cases(void)
     expect("one more is refused", with_level(1, TINESAGE_MOST_LEVEL + 1) == TINESAGE_REFUSAL_TOO_DEEP);
     expect("the deepest level in source form is accepted", with_level(0, TINESAGE_MOST_SOURCE_LEVEL) == 0);
     expect("one more is refused", with_level(0, TINESAGE_MOST_SOURCE_LEVEL + 1) == TINESAGE_REFUSAL_TOO_DEEP);
-    for (uint32_t tables = 0; tables <= 4; tables += 4) {
-        expect("the most words in compiled form are accepted", with_words(1, tables, TINESAGE_MOST_WORDS) == 0);
-        expect("one more is refused", with_words(1, tables, TINESAGE_MOST_WORDS + 1) == TINESAGE_REFUSAL_LENGTH);
-        expect("the most words in source form are accepted", with_words(0, tables, TINESAGE_MOST_SOURCE_WORDS) == 0);
-        expect("one more is refused", with_words(0, tables, TINESAGE_MOST_SOURCE_WORDS + 1) == TINESAGE_REFUSAL_LENGTH);
-    }
-    for (uint32_t label = 0; label <= FIXED; label++) {
-        expect("the most cells are accepted", with_cells(label, TINESAGE_MOST_CELLS) == 0);
-        expect("one more is refused", with_cells(label, TINESAGE_MOST_CELLS + 1) == TINESAGE_REFUSAL_WORD);
-    }
-    expect("no array is fixed and secret", with_cells(FIXED | 1, 1) == TINESAGE_REFUSAL_WORD);
+    expect("the most words in compiled form are accepted", with_words(1, TINESAGE_MOST_WORDS) == 0);
+    expect("one more is refused", with_words(1, TINESAGE_MOST_WORDS + 1) == TINESAGE_REFUSAL_LENGTH);
+    expect("the most words in source form are accepted", with_words(0, TINESAGE_MOST_SOURCE_WORDS) == 0);
+    expect("one more is refused", with_words(0, TINESAGE_MOST_SOURCE_WORDS + 1) == TINESAGE_REFUSAL_LENGTH);
+    expect("the most cells are accepted", with_cells(TINESAGE_MOST_CELLS) == 0);
+    expect("one more is refused", with_cells(TINESAGE_MOST_CELLS + 1) == TINESAGE_REFUSAL_WORD);
     expect("the most arguments are accepted", with_parameters(1, TINESAGE_MOST_ARGUMENTS) == 0);
     expect("one more is refused", with_parameters(1, TINESAGE_MOST_ARGUMENTS + 1) == TINESAGE_REFUSAL_WORD);
     expect("source form has one less", with_parameters(0, TINESAGE_MOST_ARGUMENTS - 1) == 0);
@@ -321,47 +302,6 @@ static void bound_cases(void)
            a.status == TINESAGE_REFUSED && a.number == TINESAGE_REFUSAL_BOUND_TOO_LARGE && a.place == 0);
 }
 
-/* ---- fixed arrays ---- */
-
-/* array 0 is fixed and has two cells, array 1 is public and has one; a procedure stores 7 in the first cell of one */
-static void push_fixed(uint32_t stored)
-{
-    count = 0;
-    push(0x10000201);
-    push(0x20020002), push(0xFFFFFFFF), push(5);
-    push(0x20000001);
-    push(0x30000000), push(0x40000000), push(0x50000001);
-    push(0x60010000 | stored), push(0x70000000), push(0x70000007);
-}
-
-static uint32_t poked(uint8_t *cells, size_t length, uint32_t array, uint32_t index)
-{
-    uint8_t answer[TINESAGE_ANSWER];
-    tinesage_poke(image, 4 * count, cells, length, array, index, 9, answer, sizeof answer);
-    return tinesage_read_answer(answer).number;
-}
-
-static void fixed_cases(void)
-{
-    uint8_t cells[4 * 3], out[4 * TINESAGE_MOST_DESCRIPTION], answer[TINESAGE_ANSWER];
-    push_fixed(0);
-    expect("a store into a fixed array", checked() == TINESAGE_REFUSAL_FIXED_ARRAY);
-    push_fixed(1);
-    expect("a store into another array", checked() == 0);
-    tinesage_describe(image, 4 * count, out, sizeof out, answer, sizeof answer);
-    expect("a fixed array is described by the label 2", tinesage_word(out, 4) == 2 && tinesage_word(out, 5) == 2 &&
-                                                  tinesage_word(out, 6) == 0 && tinesage_word(out, 7) == 1);
-    memset(cells, 0xA5, sizeof cells);
-    tinesage_load(image, 4 * count, cells, sizeof cells, answer, sizeof answer);
-    expect("a load puts the table, and 0 elsewhere", memcmp(cells, "\xFF\xFF\xFF\xFF\0\0\0\5\0\0\0\0", 12) == 0);
-    expect("a poke into a fixed array", poked(cells, sizeof cells, 0, 1) == TINESAGE_REFUSAL_FIXED_ARRAY);
-    expect("a poke at a cell that it lacks", poked(cells, sizeof cells, 0, 2) == TINESAGE_REFUSAL_OUT_OF_RANGE);
-    expect("a poke into another array", poked(cells, sizeof cells, 1, 0) == 0);
-    expect("only that cell is written", memcmp(cells, "\xFF\xFF\xFF\xFF\0\0\0\5\0\0\0\x09", 12) == 0);
-    tinesage_peek(image, 4 * count, cells, sizeof cells, 0, 1, answer, sizeof answer);
-    expect("a fixed cell is peeked", tinesage_read_answer(answer).result == 5);
-}
-
 int main(void)
 {
     word_cases();
@@ -374,7 +314,6 @@ int main(void)
     sized_trace_cases();
     comparison_cases();
     bound_cases();
-    fixed_cases();
     printf("%u passed, %u failed\n", passed, failed);
     return failed == 0 ? EXIT_SUCCESS : EXIT_FAILURE;
 }

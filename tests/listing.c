@@ -1,8 +1,8 @@
 /*
  * Lists the images of request lines, and each of them again with damage at random, and compares every listing with the
  * image and with what the checker answers: one line for each word, the refusal marked at its place, reading stopped
- * exactly where the checker's does, and each word of a table that was read named as the fixed cell that it stands for.
- * Built with the address and undefined behaviour sanitizers, which end it at the first byte read outside an image.
+ * exactly where the checker's does. Built with the address and undefined behaviour sanitizers, which end it at the
+ * first byte read outside an image.
  *
  *   target/listing SEED <REQUESTS
  *
@@ -21,10 +21,7 @@
 #define DAMAGES 8
 #define MANY_WORDS 1000
 
-static unsigned passed, failed;
-
-/* images by what the checker answers: accepted, or refused with a number up to the largest that an image can have */
-static unsigned refused[TINESAGE_REFUSAL_FIXED_ARRAY + 1];
+static unsigned passed, failed, refused[14];
 
 /* a block of exactly so many bytes, so that the sanitizer sees each byte read beyond them */
 struct bytes {
@@ -88,34 +85,6 @@ static bool line_agrees(const struct listed *l, const char *line, size_t place)
     return strncmp(line, start, strlen(start)) == 0 && marked_rightly(l, line, place);
 }
 
-/* the words of an image from its header on: arrays to come, the number of those begun, fixed cells of the last of them */
-struct arrays {
-    uint32_t left, begun, cell, cells;
-};
-
-/* whether the line of the next word names a fixed cell, the right one, exactly where the word stands for one */
-static bool cell_agrees(struct arrays *arrays, const char *line, size_t place, uint32_t word)
-{
-    const char *named = strstr(line, "fixed cell ");
-    char expected[64];
-    if (arrays->cell < arrays->cells) {
-        snprintf(expected, sizeof expected, "fixed cell %u of array %u: %u", (unsigned)arrays->cell++,
-                 (unsigned)arrays->begun - 1, (unsigned)word);
-        return named != NULL && strcmp(named, expected) == 0;
-    }
-    if (place == 0)
-        arrays->left = word >> 8 & 0xFF;
-    else if (arrays->left > 0)
-        *arrays = (struct arrays){arrays->left - 1, arrays->begun + 1, 0, (word >> 17 & 1) != 0 ? word & 0xFFFF : 0};
-    return named == NULL;
-}
-
-/* whether a word was read, so that it has a meaning */
-static bool was_read(const struct listed *l, size_t place)
-{
-    return place < listed_words(l) && (l->reading.whole || place < l->reading.place);
-}
-
 /* what follows the lines of the words: that bytes are left over, that words were left out, or nothing */
 static bool rest_agrees(const struct listed *l, const char *rest)
 {
@@ -150,12 +119,9 @@ static bool text_agrees(const struct listed *l, char *text)
     if (line == NULL || !verdict_agrees(l, line))
         return false;
     size_t lines = listed_words(l) + (!l->reading.whole && l->reading.number == 3 ? 1 : 0);
-    struct arrays arrays = {0, 0, 0, 0};
     for (size_t i = 0; i < lines; i++) {
         line = next_line(&text);
         if (line == NULL || !line_agrees(l, line, i))
-            return false;
-        if (was_read(l, i) && !cell_agrees(&arrays, line, i, tinesage_word(l->image.at, i)))
             return false;
     }
     return rest_agrees(l, text);
@@ -252,9 +218,8 @@ int main(int count, char **arguments)
         take_line(text, (size_t)length);
     free(text);
     printf("accepted %u", refused[0]);
-    for (int number = 1; number <= TINESAGE_REFUSAL_FIXED_ARRAY; number++)
-        if (refused[number] > 0)
-            printf(", refused with %d %u", number, refused[number]);
+    for (int number = 1; number <= 13; number++)
+        printf(", refused with %d %u", number, refused[number]);
     puts("");
     printf("%u passed, %u failed\n", passed, failed);
     return failed == 0 ? EXIT_SUCCESS : EXIT_FAILURE;

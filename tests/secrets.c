@@ -29,8 +29,7 @@
 #define MOST_PARAMETERS 9
 /* one argument more than any procedure takes, for calls that are refused with 18 */
 #define MOST_ARGUMENTS (MOST_PARAMETERS + 1)
-/* as many as the longest call of the examples records */
-#define TRACE_WORDS 2204
+#define TRACE_WORDS 1000
 #define CALLS 6
 
 /* mostly a small word, so that indices and loop bounds often lie within the arrays */
@@ -72,20 +71,15 @@ static bool secret_type(uint32_t place)
     return (tinesage_word(image, place) & 1) != 0;
 }
 
-/* answers the place of the first procedure: the word of a fixed array is followed by one for each of its cells */
-static uint32_t read_arrays(void)
+static void read_arrays(void)
 {
-    uint32_t place = 1;
     outline.arrays = tinesage_word(image, 0) >> 8 & 0xFF;
     outline.cells = 0;
     for (uint32_t i = 0; i < outline.arrays; i++) {
-        uint32_t word = tinesage_word(image, place), length = word & 0xFFFF;
-        bool fixed = (word >> 17 & 1) != 0;
-        outline.array[i] = (struct array){(word >> 16 & 1) != 0, outline.cells, length};
-        outline.cells += length;
-        place += 1 + (fixed ? length : 0);
+        uint32_t word = tinesage_word(image, 1 + i);
+        outline.array[i] = (struct array){(word >> 16 & 1) != 0, outline.cells, word & 0xFFFF};
+        outline.cells += outline.array[i].length;
     }
-    return place;
 }
 
 /* a procedure word is followed by the types of the result and of the parameters */
@@ -100,8 +94,9 @@ static void read_procedure(struct procedure *procedure, uint32_t place)
 /* In an accepted image a word of kind 3 starts a procedure, unless it is the raw constant after a word of kind 8. */
 static void read_outline(void)
 {
+    read_arrays();
     outline.procedures = 0;
-    for (uint32_t place = read_arrays(); place < image_length / 4; place++) {
+    for (uint32_t place = 1 + outline.arrays; place < image_length / 4; place++) {
         uint32_t kind = tinesage_word(image, place) >> 28;
         if (kind == 3)
             read_procedure(&outline.procedure[outline.procedures++], place);

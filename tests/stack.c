@@ -2,8 +2,7 @@
  * The native stack that each function of the library needs. Each runs on a thread whose stack was filled with a pattern;
  * what it needed is the distance from the frame that calls it to the deepest byte that no longer holds the pattern.
  * The images nest as deep as the levels allow: ifs and fors around a statement, operators below it, and 32 procedures
- * that each call the one below from there; some have the most arrays, all fixed, up to the most cells. A comparison takes
- * no image: it is measured with recordings of many lengths.
+ * that each call the one below from there. A comparison takes no image: it is measured with recordings of many lengths.
  * Prints a table of the largest need of each function, and 'N passed, M failed' as its last line, counted in bounds: one
  * fails where a need is over the bound that docs/STACK.md states. A run with another answer than its image or recording
  * is made for fails too.
@@ -36,10 +35,6 @@ static const char *const operator_names[] = {"complement",   "add, first",    "a
                                              "select, first", "select, second", "divide, first", "divide, second",
                                              "shift, second", "index",         "loop variable plus 3 as index"};
 
-/* the most arrays; with so many cells each, all fixed, they are the most cells, or fit into a short image */
-#define ARRAYS 16
-static const uint32_t table_lengths[] = {TINESAGE_MOST_CELLS / ARRAYS, 16};
-
 /* what an image is made of: `depth` ifs or fors, the statement in them, and the operators under it */
 struct shape {
     uint32_t form;
@@ -47,8 +42,7 @@ struct shape {
     uint32_t depth;
     enum leaf leaf;
     enum operators operators;
-    bool longest;   /* as many words as the form allows */
-    uint32_t table; /* the cells of each of ARRAYS fixed arrays; 0: no array is fixed */
+    bool longest; /* as many words as the form allows */
 };
 
 struct image {
@@ -265,27 +259,15 @@ static uint32_t called(const struct shape *s)
     return calls(s) ? PROCEDURES - 1 : 0;
 }
 
-/* fixed arrays, whose tables are 0 */
-static void push_tables(struct image *image, uint32_t cells)
-{
-    for (uint32_t i = 0; i < ARRAYS; i++) {
-        push(image, 0x20020000 | cells);
-        for (uint32_t k = 0; k < cells; k++)
-            push(image, 0);
-    }
-}
-
-/* the cells of array 0 are 0 and name themselves as an index; it is public, and array 1 secret, or all are fixed */
+/* a public array, whose cells are 0 and name themselves as an index, and a secret one */
 static void make_image(struct image *image, const struct shape *s)
 {
-    uint32_t chain = called(s) + 1, arrays = s->table > 0 ? ARRAYS : 2;
+    uint32_t chain = called(s) + 1;
     innermost = parameters(s) + 1 + left_at_innermost(s);
     image->count = 0;
-    push(image, 0x10000000 | s->form << 16 | arrays << 8 | (chain + (s->longest ? 1 : 0)));
-    if (s->table > 0)
-        push_tables(image, s->table);
-    else
-        push(image, 0x20000004), push(image, 0x20010004);
+    push(image, 0x10000200 | s->form << 16 | (chain + (s->longest ? 1 : 0)));
+    push(image, 0x20000004);
+    push(image, 0x20010004);
     for (uint32_t i = 0; i < chain; i++)
         push_procedure(image, s, i);
     if (s->longest)
@@ -303,10 +285,6 @@ static bool admitted(const struct shape *s)
     if (s->operators == NEIGHBOUR && (left_at_innermost(s) == 0 || level + 3 > last))
         return false;
     if (s->longest && (s->leaf != RETURN || s->operators != COMPLEMENT))
-        return false;
-    if (s->table > 0 && s->leaf != RETURN && s->leaf != CALL)
-        return false;
-    if (s->table > 0 && s->operators != COMPLEMENT && s->operators != INDEX)
         return false;
     return s->leaf == CALL ? level <= last : level < last;
 }
@@ -431,10 +409,8 @@ struct largest {
     struct shape shape;
 };
 
-/* by function: the largest need over all images; apart, over those in source form, short, of the most words, of nine fors,
- * and of fixed arrays */
-static struct largest largest[FUNCTIONS], source[FUNCTIONS], shorter[FUNCTIONS], longest[FUNCTIONS], nine[FUNCTIONS],
-    fixed[FUNCTIONS];
+/* by function: the largest need over all images; apart, over those in source form, short, of the most words, of nine fors */
+static struct largest largest[FUNCTIONS], source[FUNCTIONS], shorter[FUNCTIONS], longest[FUNCTIONS], nine[FUNCTIONS];
 
 static void keep(struct largest *kept, size_t bytes, const struct shape *s)
 {
@@ -448,8 +424,6 @@ static bool expected(const struct job *job, const struct shape *s)
     struct tinesage_answer a = tinesage_read_answer(job->answer);
     if (refused(s))
         return a.number == 13;
-    if (job->function == POKE && s->table > 0)
-        return a.number == 30;
     return job->function == COMPILE && s->form == 1 ? a.number == 14 : a.status == TINESAGE_DONE;
 }
 
@@ -479,8 +453,6 @@ static void measure(enum function function, const struct shape *s, const struct 
         keep(&longest[function], bytes, s);
     if (nine_fors(s))
         keep(&nine[function], bytes, s);
-    if (s->table > 0)
-        keep(&fixed[function], bytes, s);
 }
 
 static void measure_all(const struct shape *s)
@@ -564,23 +536,14 @@ static void measure_blocks(void)
     measure_block(0, 0, TINESAGE_NOT_PADDED);
 }
 
-static void measure_shapes(uint32_t form, bool longest_image, uint32_t table)
+static void measure_shapes(uint32_t form, bool longest_image)
 {
     for (int nest = 0; nest < NESTS; nest++)
         for (uint32_t depth = 0; depth <= DEEPEST; depth++)
             for (int leaf = 0; leaf < LEAVES; leaf++)
                 for (int operators = 0; operators < OPERATORS; operators++)
                     measure_all(&(struct shape){form, (enum nest)nest, depth, (enum leaf)leaf,
-                                                (enum operators)operators, longest_image, table});
-}
-
-static void measure_form(uint32_t form)
-{
-    for (int longest_image = 0; longest_image < 2; longest_image++) {
-        measure_shapes(form, longest_image, 0);
-        for (size_t i = 0; i < sizeof table_lengths / sizeof table_lengths[0]; i++)
-            measure_shapes(form, longest_image, table_lengths[i]);
-    }
+                                                (enum operators)operators, longest_image});
 }
 
 static void print_row(const char *title, enum function function, const struct largest *kept)
@@ -590,8 +553,6 @@ static void print_row(const char *title, enum function function, const struct la
            nest_names[s->nest], leaf_names[s->leaf]);
     if (s->leaf != CALL)
         printf(", %s", operator_names[s->operators]);
-    if (s->table > 0)
-        printf(", %u fixed cells", (unsigned)(ARRAYS * s->table));
     printf(" | %zu |\n", kept->bytes);
 }
 
@@ -608,8 +569,10 @@ static void judge(const char *title, enum function function, const struct larges
 int main(void)
 {
     prepare_stack();
-    for (uint32_t form = 0; form <= 1; form++)
-        measure_form(form);
+    for (uint32_t form = 0; form <= 1; form++) {
+        measure_shapes(form, false);
+        measure_shapes(form, true);
+    }
     measure_comparisons();
     measure_blocks();
     puts("| function | of | image | bytes |\n| --- | --- | --- | ---: |");
@@ -619,7 +582,6 @@ int main(void)
         print_row("images of at most 512 words", (enum function)f, &shorter[f]);
         print_row("images of the most words", (enum function)f, &longest[f]);
         print_row("nine fors", (enum function)f, &nine[f]);
-        print_row("fixed arrays", (enum function)f, &fixed[f]);
     }
     printf("| %s | recordings of up to %zu entries | | %zu |\n", function_names[COMPARED], MOST_ENTRIES,
            largest[COMPARED].bytes);

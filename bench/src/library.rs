@@ -12,14 +12,6 @@ extern "C" {
         answer: *mut u8,
         answer_len: usize,
     );
-    fn tinesage_load(
-        image: *const u8,
-        image_len: usize,
-        cells: *mut u8,
-        cells_len: usize,
-        answer: *mut u8,
-        answer_len: usize,
-    );
     fn tinesage_call(
         image: *const u8,
         image_len: usize,
@@ -88,22 +80,6 @@ pub fn compile(image: &[u8], out: &mut [u8]) -> Option<usize> {
         );
     }
     (word(&answer, 0) == 0).then(|| word(&answer, 6) as usize)
-}
-
-/// Whether the image is loaded.
-pub fn load(image: &[u8], cells: &mut [u8]) -> bool {
-    let mut answer = [0; 28];
-    unsafe {
-        tinesage_load(
-            image.as_ptr(),
-            image.len(),
-            cells.as_mut_ptr(),
-            cells.len(),
-            answer.as_mut_ptr(),
-            answer.len(),
-        );
-    }
-    word(&answer, 0) == 0
 }
 
 pub fn call(image: &[u8], cells: &mut [u8], call: &Call, trace: &mut [u8]) -> Answer {

@@ -1,11 +1,11 @@
 //! Compares the speed of the proved library with that of the second program,
 //! on the same images and requests.
 //!
-//! Prints six tables: rates side by side, how the time grows when the work
+//! Prints five tables: rates side by side, how the time grows when the work
 //! doubles, checks of fors inside each other, the library's previews beside its
-//! calls, and bounds and loads beside checks. `bench/draw` makes a picture of the
-//! first two. Each request checks its image anew, on both sides, as the machine
-//! asks. The lent buffers are allocated once and not cleared between two runs.
+//! calls, and bounds beside checks. `bench/draw` makes a picture of the first two. Each request checks
+//! its image anew, on both sides, as the machine asks. The lent buffers are
+//! allocated once and not cleared between two runs.
 
 #[allow(dead_code)]
 #[path = "../../second/src/bounds.rs"]
@@ -45,7 +45,7 @@ mod workloads;
 
 use std::process::ExitCode;
 
-use measure::{bound_table, growth_table, load_table, nesting_table, preview_table, rate_table};
+use measure::{bound_table, growth_table, nesting_table, preview_table, rate_table};
 
 fn main() -> ExitCode {
     // fewer passes make a quick trial
@@ -59,6 +59,5 @@ fn main() -> ExitCode {
     nesting_table();
     preview_table(passes);
     bound_table();
-    load_table();
     ExitCode::SUCCESS
 }

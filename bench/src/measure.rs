@@ -4,7 +4,7 @@ use std::hint::black_box;
 use std::time::{Duration, Instant};
 
 use crate::workloads::{
-    arrays, call_chain, hot_loop, long_source, mixed, nested_fors, small_routine, untaken_arm, Call,
+    call_chain, hot_loop, long_source, mixed, nested_fors, small_routine, untaken_arm, Call,
     Workload,
 };
 use crate::{compile, library, second, words};
@@ -258,36 +258,23 @@ pub fn preview_table(passes: u32) {
 
 // ---- bounds ----
 
-/// A request to the library: beside the check that it begins with, then beside the second program's.
-fn request_row<T, U>(
-    title: &str,
-    image: &[u8],
-    mut by_library: impl FnMut() -> T,
-    by_second: impl FnMut() -> U,
-) {
-    let (of_check, of_request) = least_of_both(|| library::check(black_box(image)), &mut by_library);
-    let pair = least_times(by_library, by_second);
-    println!(
-        "| {title} ({} words) | {:.2} | {:.2} | {:.3} | {:.3} |",
-        image.len() / 4,
-        of_check * 1e6,
-        of_request * 1e6,
-        of_request / of_check,
-        pair.second / pair.library
-    );
-}
-
-/// The bound of the last of so many procedures.
+/// The library's bound of the last of so many procedures: beside the check that it begins with, then beside the
+/// second program's.
 fn bound_row(title: &str, image: &[u8], procedures: u32, cells: usize) {
     let lent = vec![0; 4 * cells];
     let last = procedures - 1;
     let known = library::bound(image, &lent, last);
     assert!(known.is_some() && known == second::bound(image, last), "bounds differ");
-    request_row(
-        title,
-        image,
-        || library::bound(black_box(image), &lent, last),
-        || second::bound(black_box(image), last),
+    let by_library = || library::bound(black_box(image), &lent, last);
+    let (of_check, of_bound) = least_of_both(|| library::check(black_box(image)), by_library);
+    let pair = least_times(by_library, || second::bound(black_box(image), last));
+    println!(
+        "| {title} ({} words) | {:.2} | {:.2} | {:.3} | {:.3} |",
+        image.len() / 4,
+        of_check * 1e6,
+        of_bound * 1e6,
+        of_bound / of_check,
+        pair.second / pair.library
     );
 }
 
@@ -302,31 +289,5 @@ pub fn bound_table() {
     bound_row("mixed loop, source", &mixed(1000).image, 1, 16);
     for procedures in [16, 31] {
         bound_row(&format!("{procedures} procedures"), &call_chain(procedures), procedures, 0);
-    }
-}
-
-// ---- loads ----
-
-fn load_row(title: &str, image: &[u8], cells: usize) {
-    let (mut lent, mut own) = (vec![0; 4 * cells], vec![0; cells]);
-    assert!(library::load(image, &mut lent) && second::load(image, &mut own), "a load is refused");
-    assert!(lent == words::to_bytes(&own), "cells differ");
-    request_row(
-        title,
-        image,
-        || library::load(black_box(image), &mut lent),
-        || second::load(black_box(image), &mut own),
-    );
-}
-
-pub fn load_table() {
-    println!();
-    println!("| image | check, microseconds | load, microseconds | load / check | library / second program |");
-    println!("| --- | ---: | ---: | ---: | ---: |");
-    load_row("small routine, source", &small_routine().image, 0);
-    load_row("long source, source", &long_source(4096).image, 0);
-    for count in [1, 16] {
-        load_row(&format!("{} cells", 64 * count), &arrays(count, false), 64 * count as usize);
-        load_row(&format!("{} fixed cells", 64 * count), &arrays(count, true), 64 * count as usize);
     }
 }

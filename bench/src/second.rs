@@ -11,15 +11,6 @@ pub fn compile(image: &[u8], capacity: usize) -> Option<usize> {
     compile::compile(image, capacity as u64).ok().map(|words| words.len())
 }
 
-/// Whether the image is loaded over cells that are as many as its own.
-pub fn load(image: &[u8], cells: &mut [u32]) -> bool {
-    let Ok(image) = check::check(image) else {
-        return false;
-    };
-    cells.copy_from_slice(&image.initial_cells());
-    true
-}
-
 pub fn call(image: &[u8], cells: &mut [u32], call: &Call, trace_capacity: usize) -> Answer {
     let image = check::check(image).expect("the workloads are accepted");
     let arguments: Vec<u32> = call

@@ -149,17 +149,6 @@ pub fn nested_fors(form: u32, count: u32, returns: bool) -> Vec<u8> {
     words::to_bytes(&image)
 }
 
-/// So many arrays of 64 cells, fixed or not, and a procedure without a statement.
-pub fn arrays(count: u32, fixed: bool) -> Vec<u8> {
-    let mut image = vec![HEADER | count << 8];
-    for _ in 0..count {
-        image.push(words::array(if fixed { words::FIXED_CELLS } else { words::PUBLIC_CELLS }, 64));
-        image.extend((0..64).filter(|_| fixed));
-    }
-    image.extend([procedure(0, 0), PUBLIC_WORD, block(0)]);
-    words::to_bytes(&image)
-}
-
 /// So many procedures, each of which calls the one before it twice: the steps of the last double with each.
 pub fn call_chain(procedures: u32) -> Vec<u8> {
     let mut image = vec![0x1000_0000 | procedures, procedure(0, 0), PUBLIC_WORD, block(1)];

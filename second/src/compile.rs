@@ -33,8 +33,7 @@ fn compile_image(image: &Image) -> Option<Vec<u32>> {
     let counts = (image.arrays.len() as u32) << 8 | image.procedures.len() as u32;
     let mut output = vec![words::word(words::HEADER, 1 << 16 | counts)];
     for array in &image.arrays {
-        output.push(words::array(array.access(), array.length));
-        output.extend(array.table.iter().flatten());
+        output.push(words::word(words::ARRAY, (array.label as u32) << 16 | array.length));
     }
     for procedure in &image.procedures {
         compile_procedure(image, procedure, &mut output);

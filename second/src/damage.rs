@@ -58,7 +58,6 @@ fn bent_word(random: &mut Random, word: u32) -> Option<u32> {
     let (kind, payload) = words::split(word);
     let near = if random.chance(50) { word.wrapping_add(1) } else { word.wrapping_sub(1) };
     Some(match kind {
-        words::ARRAY if random.chance(15) => word ^ words::FIXED_CELLS << 16,
         words::ARRAY | words::PROCEDURE if random.chance(60) => word ^ 0x0001_0000,
         words::ARRAY | words::CONSTANT | words::INDEX => near,
         words::TYPE if random.chance(85) => word ^ 1,

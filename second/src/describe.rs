@@ -23,7 +23,7 @@ fn describe_image(image: &Image) -> Vec<u32> {
     let counts = [image.arrays.len(), image.procedures.len(), image.cell_count()];
     words.extend(counts.map(|count| count as u32));
     for array in &image.arrays {
-        words.extend([array.access(), array.length]);
+        words.extend([array.label as u32, array.length]);
     }
     for procedure in &image.procedures {
         words.extend(describe_procedure(procedure));

@@ -18,11 +18,10 @@ use crate::protocol::{push_words, Driver};
 use crate::random::Random;
 use crate::recordings::{is_seen, recording, Recording};
 use crate::step_counts::{counted_image, Counted, Kind, KINDS};
-use crate::tables::{self, tabled_image, Asked, Session, Tabled};
 use crate::words;
 
 /// Prints request lines until there are at least `count`, those about a probe's
-/// recordings and about images that are made for bounds or tables aside.
+/// recordings and about images that are made for bounds aside.
 pub fn generate(seed: u64, count: u64, output: impl Write) -> io::Result<()> {
     let (random, driver) = (Random::new(seed), Driver::new());
     let mut generator = Generator { random, driver, output, lines: 0 };
@@ -36,11 +35,10 @@ pub fn generate(seed: u64, count: u64, output: impl Write) -> io::Result<()> {
     generator.output.flush()
 }
 
-const SLIPS: [Slip; 11] = [
+const SLIPS: [Slip; 10] = [
     Slip::Name,
     Slip::Sort,
     Slip::LoopVariable,
-    Slip::FixedArray,
     Slip::Flow,
     Slip::SecretOperand,
     Slip::Unbounded,
@@ -98,20 +96,19 @@ impl<W: Write> Generator<W> {
     }
 
     fn case(&mut self) -> io::Result<()> {
-        match self.random.below(124) {
+        match self.random.below(108) {
             0..=26 => self.source_case(),
             27..=35 => self.compiled_case(),
-            36..=46 => self.neighbour_case(),
-            47..=57 => self.level_case(),
-            58..=69 => self.slipped_case(),
-            70..=78 => self.bent_case(),
-            79..=87 => self.damaged_case(),
-            88 | 89 => self.noise_case(),
-            90..=94 => self.limit_case(),
-            95..=99 => self.length_case(),
-            100..=104 => self.changing_session(),
-            105..=113 => self.bound_case(),
-            _ => self.table_case(),
+            36..=43 => self.neighbour_case(),
+            44..=53 => self.level_case(),
+            54..=65 => self.slipped_case(),
+            66..=74 => self.bent_case(),
+            75..=83 => self.damaged_case(),
+            84 | 85 => self.noise_case(),
+            86..=90 => self.limit_case(),
+            91..=94 => self.length_case(),
+            95..=99 => self.changing_session(),
+            _ => self.bound_case(),
         }
     }
 
@@ -403,75 +400,6 @@ impl<W: Write> Generator<W> {
         Ok(())
     }
 
-    /// Images of all kinds that are made for tables.
-    fn table_case(&mut self) -> io::Result<()> {
-        let lines = self.lines;
-        for kind in tables::KINDS {
-            let made = tabled_image(&mut self.random, kind);
-            self.tabled_image(&made)?;
-        }
-        // Not counted, so that they take no line from the other requests.
-        self.lines = lines;
-        Ok(())
-    }
-
-    /// An image that is accepted is used as it is, or compiled; one that is not
-    /// is at times asked for more.
-    fn tabled_image(&mut self, made: &Tabled) -> io::Result<()> {
-        let image = &made.image;
-        self.due(made.what, &made.answer)?;
-        let accepted = self.send_image("check", image)? == "ok";
-        if self.random.chance(25) {
-            self.describe(image)?;
-        }
-        if !accepted {
-            return if self.random.chance(25) { self.both_forms(image) } else { Ok(()) };
-        }
-        match self.compile(image)?.filter(|_| self.random.chance(50)) {
-            Some(compiled) => self.table_session(made, &compiled),
-            None => self.table_session(made, image),
-        }
-    }
-
-    /// The comment is for whoever counts: what the next request was made for,
-    /// and the answer that is due.
-    fn due(&mut self, what: &str, answer: &str) -> io::Result<()> {
-        self.send(format!("# fixed tables: {what}: {answer}")).map(|_| ())
-    }
-
-    /// A machine whose host at times fills its cells, before the load and later.
-    fn table_session(&mut self, made: &Tabled, image: &[u32]) -> io::Result<()> {
-        let outline = Outline::of(image);
-        let cells = outline.lengths.iter().sum::<u32>() + self.random.below(4);
-        self.send(format!("new {cells}"))?;
-        let filled = self.random.chance(60);
-        if filled {
-            self.fill()?;
-        }
-        let what = match (filled, made.image == image) {
-            (_, false) => "load of a compiled image",
-            (true, true) => "load over filled cells",
-            (false, true) => "load",
-        };
-        self.due(what, "ok")?;
-        self.send_image("load", image)?;
-        let mut session = Session::new(made);
-        for _ in 0..self.random.between(5, 10) {
-            match self.random.below(10) {
-                0 | 1 => self.run(&outline)?,
-                2 | 3 => {
-                    self.send("cells".to_string())?;
-                }
-                _ => {
-                    let Asked { what, request, answer } = session.request(&mut self.random);
-                    self.due(what, &answer)?;
-                    self.send(request)?;
-                }
-            }
-        }
-        self.send("cells".to_string()).map(|_| ())
-    }
-
     /// Several images, good and bad, in turn on one machine.
     fn changing_session(&mut self) -> io::Result<()> {
         let cells = self.random.pick(&[0, 8, 40, 300, 1024, 1030]).unwrap_or(0);
@@ -503,7 +431,8 @@ impl<W: Write> Generator<W> {
         };
         self.send(format!("new {cells}"))?;
         if self.random.chance(30) {
-            self.fill()?;
+            let value = self.random.word();
+            self.send(format!("fill {value}"))?;
         }
         if self.random.chance(4) {
             self.requests(&outline, 1)?;
@@ -515,7 +444,7 @@ impl<W: Write> Generator<W> {
 
     fn requests(&mut self, outline: &Outline, count: u32) -> io::Result<()> {
         for _ in 0..count {
-            match self.random.below(112) {
+            match self.random.below(110) {
                 0..=26 => self.poke(outline)?,
                 27..=36 => self.peek(outline)?,
                 37..=39 => {
@@ -529,19 +458,13 @@ impl<W: Write> Generator<W> {
                     self.send_image("load", &image)?;
                 }
                 49..=99 => self.run(outline)?,
-                100..=109 => {
+                _ => {
                     let procedure = self.procedure(outline);
                     self.bound(outline, procedure)?;
                 }
-                _ => self.fill()?,
             }
         }
         self.send("cells".to_string()).map(|_| ())
-    }
-
-    fn fill(&mut self) -> io::Result<()> {
-        let value = self.random.word();
-        self.send(format!("fill {value}")).map(|_| ())
     }
 
     fn poke(&mut self, outline: &Outline) -> io::Result<()> {

@@ -80,11 +80,6 @@ impl Image {
     pub fn cell_count(&self) -> usize {
         self.arrays.last().map_or(0, |last| (last.base + last.length) as usize)
     }
-
-    /// The cells as a load leaves them.
-    pub fn initial_cells(&self) -> Vec<u32> {
-        self.arrays.iter().flat_map(Array::initial_cells).collect()
-    }
 }
 
 /// `base` is the array's first cell; arrays lie in the cell slice in order.
@@ -92,27 +87,6 @@ pub struct Array {
     pub label: Label,
     pub length: u32,
     pub base: u32,
-    /// The words of its cells, if these are fixed (document 02, wish 5).
-    pub table: Option<Vec<u32>>,
-}
-
-impl Array {
-    pub fn is_fixed(&self) -> bool {
-        self.table.is_some()
-    }
-
-    /// What stands above the length in the array's word.
-    pub fn access(&self) -> u32 {
-        match (self.is_fixed(), self.label) {
-            (true, _) => words::FIXED_CELLS,
-            (false, Label::Secret) => words::SECRET_CELLS,
-            (false, Label::Public) => words::PUBLIC_CELLS,
-        }
-    }
-
-    fn initial_cells(&self) -> Vec<u32> {
-        self.table.clone().unwrap_or_else(|| vec![0; self.length as usize])
-    }
 }
 
 /// `variables` holds the parameters first, then the locals.
@@ -273,27 +247,14 @@ impl Reader<'_> {
         let mut arrays = Vec::new();
         let mut base = 0;
         for _ in 0..count {
-            let array = self.array(base)?;
-            base += array.length;
-            arrays.push(array);
+            let (place, payload) = self.take_kind(words::ARRAY)?;
+            let (label, length) = (payload >> 16, payload & 0xFFFF);
+            let fits = (1..=MAX_ARRAY_LENGTH).contains(&length) && base + length <= MAX_CELLS;
+            require(label <= 1 && fits, Code::BadWord, place)?;
+            arrays.push(Array { label: label_of(label), length, base });
+            base += length;
         }
         Ok(arrays)
-    }
-
-    /// All that the array's word says is judged before its table.
-    fn array(&mut self, base: u32) -> Result<Array, Refusal> {
-        let (place, payload) = self.take_kind(words::ARRAY)?;
-        let (access, length) = (payload >> 16, payload & 0xFFFF);
-        let fits = (1..=MAX_ARRAY_LENGTH).contains(&length) && base + length <= MAX_CELLS;
-        require(access <= words::FIXED_CELLS && fits, Code::BadWord, place)?;
-        let label = if access == words::SECRET_CELLS { Label::Secret } else { Label::Public };
-        let table = if access == words::FIXED_CELLS { Some(self.table(length)?) } else { None };
-        Ok(Array { label, length, base, table })
-    }
-
-    /// Raw words: every word is a good one.
-    fn table(&mut self, length: u32) -> Result<Vec<u32>, Refusal> {
-        (0..length).map(|_| Ok(self.take()?.1)).collect()
     }
 
     fn procedure(&mut self) -> Result<Procedure, Refusal> {

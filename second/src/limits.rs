@@ -4,7 +4,6 @@ use crate::compile::compile;
 use crate::image::{Form, MAX_ARRAYS, MAX_CELLS, MAX_PROCEDURES};
 use crate::operators::{Binary, Unary};
 use crate::random::Random;
-use crate::tables::push_array;
 use crate::words::{self, push_constant, statement, word};
 
 const SECRET_WORD: u32 = word(words::TYPE, 1);
@@ -194,10 +193,13 @@ fn many_cells(random: &mut Random, form: Form) -> Vec<u32> {
     let some = random.between(5, MAX_ARRAYS);
     let arrays = if random.chance(15) { MAX_ARRAYS + 1 } else { some };
     let mut image = vec![header(form, arrays, 1)];
-    let highest = if random.chance(40) { words::FIXED_CELLS } else { words::SECRET_CELLS };
-    for length in lengths(random, total, arrays) {
-        let access = random.between(words::PUBLIC_CELLS, highest);
-        push_array(random, &mut image, access, length);
+    let mut left = total;
+    for after in (0..arrays).rev() {
+        // Leave between 1 and 256 cells for each array still to come.
+        let (low, high) = (left.saturating_sub(256 * after).max(1), (left - after).min(256));
+        let length = if low < high { random.between(low, high) } else { high };
+        image.push(word(words::ARRAY, random.below(2) << 16 | length));
+        left -= length;
     }
     image.extend([procedure(false, 1, 0), SECRET_WORD, PUBLIC_WORD, word(words::BLOCK, 2)]);
     let number = random.below(arrays);
@@ -205,20 +207,6 @@ fn many_cells(random: &mut Random, form: Form) -> Vec<u32> {
     image.extend([word(words::CONSTANT, 9), statement(words::RETURN, 0)]);
     image.extend([word(words::INDEX, number), word(words::VARIABLE, 0)]);
     image
-}
-
-/// Lengths of so many arrays that have so many cells together.
-pub fn lengths(random: &mut Random, total: u32, arrays: u32) -> Vec<u32> {
-    let mut left = total;
-    let mut lengths = Vec::new();
-    for after in (0..arrays).rev() {
-        // Leave between 1 and 256 cells for each array still to come.
-        let (low, high) = (left.saturating_sub(256 * after).max(1), (left - after).min(256));
-        let length = if low < high { random.between(low, high) } else { high };
-        lengths.push(length);
-        left -= length;
-    }
-    lengths
 }
 
 /// A chain of calls through every procedure; twice each, it would never end
@@ -243,13 +231,7 @@ fn many_procedures(random: &mut Random, form: Form) -> Vec<u32> {
 
 fn long_image(random: &mut Random, form: Form) -> Vec<u32> {
     let length = around(random, form.max_words() as u32) as usize;
-    let tables = random.below(3);
-    let mut image = vec![header(form, tables, 1)];
-    for _ in 0..tables {
-        let cells = random.between(1, 256);
-        push_array(random, &mut image, words::FIXED_CELLS, cells);
-    }
-    image.extend([procedure(false, 0, 1), SECRET_WORD, SECRET_WORD]);
+    let mut image = vec![header(form, 0, 1), procedure(false, 0, 1), SECRET_WORD, SECRET_WORD];
     let block = image.len();
     image.push(EMPTY_BLOCK);
     let mut count = 0;
@@ -283,8 +265,7 @@ pub fn long_result(random: &mut Random, past: bool) -> Vec<u32> {
     let fillings = [Filling::Returns, Filling::Calls, Filling::IfsWithCalls];
     let filling = random.pick(&fillings).unwrap_or(Filling::Calls);
     let guarded = random.chance(50);
-    let cells = random.pick(&[0, 0, 1, 200]).unwrap_or(0);
-    let filled = |count: u32, padding: u32| filled_image(filling, guarded, cells, count, padding);
+    let filled = |count: u32, padding: u32| filled_image(filling, guarded, count, padding);
     // All fillings of one image grow alike, and padding keeps its length.
     let length = |count: u32| {
         let compiled = compile(&words::to_bytes(&filled(count, LEAST_PADDING)), u64::MAX);
@@ -301,18 +282,11 @@ pub fn long_result(random: &mut Random, past: bool) -> Vec<u32> {
 const LEAST_PADDING: u32 = 6;
 
 /// A procedure to call, one with the filling behind a return in a secret if,
-/// and one that keeps its words. An image with fixed cells is brought to its
-/// length by more of them.
-fn filled_image(filling: Filling, guarded: bool, cells: u32, count: u32, padding: u32) -> Vec<u32> {
+/// and one that keeps its words.
+fn filled_image(filling: Filling, guarded: bool, count: u32, padding: u32) -> Vec<u32> {
     let secret_if = [statement(words::IF, 0), word(words::VARIABLE, 0)];
     let returned = [statement(words::RETURN, 0), word(words::CONSTANT, 1)];
-    let more = padding - LEAST_PADDING;
-    let (length, padding) = if cells > 0 { (cells + more, LEAST_PADDING) } else { (0, padding) };
-    let mut image = vec![header(Form::Source, (length > 0) as u32, 3)];
-    if length > 0 {
-        image.push(words::array(words::FIXED_CELLS, length));
-        image.extend(1..=length);
-    }
+    let mut image = vec![header(Form::Source, 0, 3)];
     image.extend([procedure(true, 0, 0), SECRET_WORD, EMPTY_BLOCK]);
     image.extend([procedure(guarded, 1, 1), SECRET_WORD, SECRET_BOOLEAN, SECRET_WORD]);
     image.push(word(words::BLOCK, count + 1));

@@ -1,5 +1,5 @@
 //! The machine: an image in force, cells that outlive calls, and the requests
-//! a host makes (refusals 17, 18, 20, 30, 32 and 33).
+//! a host makes (refusals 17, 18, 20, 32 and 33).
 
 use std::rc::Rc;
 
@@ -38,22 +38,19 @@ impl Machine {
         let Some(own) = self.cells.get_mut(..image.cell_count()) else {
             return Err(Refusal::whole(Code::NoSuchTarget));
         };
-        own.copy_from_slice(&image.initial_cells());
+        own.fill(0);
         self.image = Some(Rc::new(image));
         Ok(())
     }
 
     pub fn clear(&mut self) -> Result<(), Refusal> {
-        let initial = self.image()?.initial_cells();
-        self.cells[..initial.len()].copy_from_slice(&initial);
+        let count = self.image()?.cell_count();
+        self.cells[..count].fill(0);
         Ok(())
     }
 
     pub fn poke(&mut self, array: u32, index: u32, value: u32) -> Result<(), Refusal> {
         let cell = self.cell(array, index)?;
-        if self.image()?.arrays[array as usize].is_fixed() {
-            return Err(Refusal::whole(Code::FixedArray));
-        }
         self.cells[cell] = value;
         Ok(())
     }

@@ -28,7 +28,6 @@ mod recordings;
 mod refusal;
 mod sorts;
 mod step_counts;
-mod tables;
 mod words;
 
 use std::io::{self, BufReader, BufWriter, ErrorKind};

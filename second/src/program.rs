@@ -9,7 +9,6 @@ mod statements;
 use crate::image::{Form, Label, Type, MAX_CELLS};
 use crate::operators::Sort;
 use crate::random::Random;
-use crate::tables::push_array;
 use crate::words;
 
 /// What kind of program is wanted.
@@ -32,7 +31,6 @@ pub enum Slip {
     Name,
     Sort,
     LoopVariable,
-    FixedArray,
     Flow,
     SecretOperand,
     Unbounded,
@@ -51,7 +49,7 @@ impl Slip {
             Slip::Name | Slip::Sort | Slip::Any => 4,
             Slip::LoopVariable | Slip::Flow => 12,
             Slip::SecretOperand | Slip::SecretBranch => 30,
-            Slip::Unbounded | Slip::OpenCall | Slip::LoopReturn | Slip::FixedArray => 50,
+            Slip::Unbounded | Slip::OpenCall | Slip::LoopReturn => 50,
         }
     }
 }
@@ -60,10 +58,8 @@ impl Slip {
 pub fn program(random: &mut Random, shape: Shape) -> Vec<u32> {
     let mut writer = Writer::new(random, shape);
     writer.header();
-    let start = writer.output.len();
-    let room = shape.room.saturating_sub(start);
     for done in 1..=shape.procedures as usize {
-        writer.limit = start + room * done / shape.procedures as usize;
+        writer.limit = shape.room * done / shape.procedures as usize;
         writer.procedure();
     }
     writer.output
@@ -80,7 +76,6 @@ struct Signature {
 #[derive(Clone, Copy)]
 struct ArrayShape {
     label: Label,
-    fixed: bool,
     length: u32,
 }
 
@@ -192,23 +187,15 @@ impl<'r> Writer<'r> {
             let length = self.array_length().min(left);
             if length > 0 {
                 let label = self.label(50);
-                let fixed = label == Label::Public && self.is_fixed(length);
-                self.arrays.push(ArrayShape { label, fixed, length });
+                self.arrays.push(ArrayShape { label, length });
                 left -= length;
             }
         }
         let counts = (self.arrays.len() as u32) << 8 | self.shape.procedures;
         self.push(words::HEADER, (self.shape.form as u32) << 16 | counts);
         for array in self.arrays.clone() {
-            let access = if array.fixed { words::FIXED_CELLS } else { array.label as u32 };
-            push_array(self.random, &mut self.output, access, array.length);
+            self.push(words::ARRAY, (array.label as u32) << 16 | array.length);
         }
-    }
-
-    /// Long tables would leave no room for statements.
-    fn is_fixed(&mut self, length: u32) -> bool {
-        let percent = if self.shape.slip == Some(Slip::FixedArray) { 70 } else { 20 };
-        length <= 16 && self.random.chance(percent)
     }
 
     fn array_length(&mut self) -> u32 {

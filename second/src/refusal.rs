@@ -1,7 +1,7 @@
 //! Refusal and stop numbers, and the rule that picks one fault among several.
 
 /// Every number the checker, the compiler and the machine can answer with.
-/// 1 to 18, 20, 30, 32 and 33 refuse a request, 21 to 24 stop a run.
+/// 1 to 18, 20, 32 and 33 refuse a request, 21 to 24 stop a run.
 #[derive(Clone, Copy, PartialEq, Eq, PartialOrd, Ord, Debug)]
 pub enum Code {
     ImageLength = 1,
@@ -27,7 +27,6 @@ pub enum Code {
     TraceFull = 22,
     IndexBeyond = 23,
     DivisorZero = 24,
-    FixedArray = 30,
     UnboundedLoop = 32,
     BoundTooLarge = 33,
 }

@@ -1,9 +1,8 @@
-//! Names, sorts, the loop variable rule and stores into fixed arrays (refusals
-//! 6, 7, 8 and 30).
+//! Names, sorts and the loop variable rule (refusals 6, 7 and 8).
 
 use std::collections::BTreeSet;
 
-use crate::image::{Action, Array, Expression, Image, Label, Node, Procedure, Statement, Type};
+use crate::image::{Action, Expression, Image, Label, Node, Procedure, Statement, Type};
 use crate::operators::Sort;
 use crate::refusal::{Code, Faults, Refusal};
 
@@ -60,7 +59,7 @@ impl Walk<'_> {
                 self.expect(value, target.map(|target| target.sort));
             }
             Action::Store { array, index, value } => {
-                self.stored_array(*array, place);
+                self.array(*array, place);
                 self.expect(index, Some(Sort::Word));
                 self.expect(value, Some(Sort::Word));
             }
@@ -126,13 +125,6 @@ impl Walk<'_> {
     fn array(&mut self, array: u32, place: u32) {
         if array as usize >= self.image.arrays.len() {
             self.faults.note(Code::NoSuchName, place);
-        }
-    }
-
-    fn stored_array(&mut self, array: u32, place: u32) {
-        self.array(array, place);
-        if self.image.arrays.get(array as usize).is_some_and(Array::is_fixed) {
-            self.faults.note(Code::FixedArray, place);
         }
     }
 

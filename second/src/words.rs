@@ -15,11 +15,6 @@ pub const UNARY: u32 = 0xC;
 pub const BINARY: u32 = 0xD;
 pub const SELECT: u32 = 0xE;
 
-/// What stands above the length in an array word. Fixed cells are public.
-pub const PUBLIC_CELLS: u32 = 0;
-pub const SECRET_CELLS: u32 = 1;
-pub const FIXED_CELLS: u32 = 2;
-
 pub const ASSIGN: u32 = 0;
 pub const STORE: u32 = 1;
 pub const IF: u32 = 2;
@@ -32,10 +27,6 @@ pub const PAYLOAD_LIMIT: u32 = 1 << 28;
 
 pub const fn word(kind: u32, payload: u32) -> u32 {
     kind << 28 | payload
-}
-
-pub const fn array(access: u32, length: u32) -> u32 {
-    word(ARRAY, access << 16 | length)
 }
 
 pub const fn statement(op: u32, q: u32) -> u32 {

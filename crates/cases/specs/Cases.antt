@@ -11,7 +11,7 @@ use Rattle.definitions.specs.Operators.{apply_binary, apply_unary}
 use Rattle.definitions.specs.Image.{header_word, array_word, procedure_word, type_word, block_word, statement_word}
 use Rattle.definitions.specs.Image.{expression_word, raw_word, place_of, cell_count, base_of}
 use Rattle.definitions.specs.Reading.{read_expression, read_arguments, read_statements, read_statement, read_types}
-use Rattle.definitions.specs.Reading.{read_procedure, read_procedures, read_array, read_arrays, tables_at, read_rest, read_image}
+use Rattle.definitions.specs.Reading.{read_procedure, read_procedures, read_arrays, read_rest, read_image}
 use Rattle.definitions.specs.Faults.{least}
 use Rattle.definitions.specs.Sorts.{sort_in, mark_statement, sort_faults, argument_faults, statement_sort_faults}
 use Rattle.definitions.specs.Sorts.{procedure_sort_faults, procedures_sort_faults, image_sort_faults}
@@ -20,7 +20,7 @@ use Rattle.definitions.specs.Labels.{argument_label_faults, statement_label_faul
 use Rattle.definitions.specs.Labels.{procedures_label_faults, image_label_faults}
 use Rattle.definitions.specs.Checking.{fault_of, without_fault, admitted, verdict, checked}
 use Rattle.definitions.specs.Encoding.{expression_words, argument_words, statement_count, statement_words, block_words}
-use Rattle.definitions.specs.Encoding.{procedure_words, procedures_words, arrays_words, image_words}
+use Rattle.definitions.specs.Encoding.{procedure_words, procedures_words, image_words}
 use Rattle.definitions.specs.Compiling.{moved, moved_all, act, masked, under, followed_by, statement_nesting, statement_needs}
 use Rattle.definitions.specs.Compiling.{compiled_if, compiled_return, compiled_call, compiled_statement, closed, compiled_types}
 use Rattle.definitions.specs.Compiling.{compiled_body, compiled_procedure, compiled_procedures, compiled_image, fit_locals}
@@ -112,5 +112,5 @@ example_has_no_shift = (refl, refl)
 
 -- Every case of the table holds.
 pub starred_hold : AllHold starred
-unfolding apply_binary apply_unary header_word array_word procedure_word type_word block_word statement_word expression_word raw_word place_of cell_count base_of read_expression read_arguments read_statements read_statement read_types read_procedure read_procedures read_array read_arrays tables_at read_rest read_image least sort_in mark_statement sort_faults argument_faults statement_sort_faults procedure_sort_faults procedures_sort_faults image_sort_faults secret_in rc_after is_constant constant_value bounded_sum bounded_index label_faults argument_label_faults statement_label_faults procedure_label_faults procedures_label_faults image_label_faults fault_of without_fault admitted verdict checked flat_map expression_words argument_words statement_count statement_words block_words procedure_words procedures_words arrays_words image_words moved moved_all act masked under followed_by statement_nesting statement_needs compiled_if compiled_return compiled_call compiled_statement closed compiled_types compiled_body compiled_procedure compiled_procedures compiled_image fit_locals written compiled_tree compiled emit in_array index_at divided shifted operated evaluate evaluate_all tick passes taken received run_statement frame finish run_procedure with_cells ready_to_load ready_to_serve argument_values ended called_on served_call call
+unfolding apply_binary apply_unary header_word array_word procedure_word type_word block_word statement_word expression_word raw_word place_of cell_count base_of read_expression read_arguments read_statements read_statement read_types read_procedure read_procedures read_arrays read_rest read_image least sort_in mark_statement sort_faults argument_faults statement_sort_faults procedure_sort_faults procedures_sort_faults image_sort_faults secret_in rc_after is_constant constant_value bounded_sum bounded_index label_faults argument_label_faults statement_label_faults procedure_label_faults procedures_label_faults image_label_faults fault_of without_fault admitted verdict checked flat_map expression_words argument_words statement_count statement_words block_words procedure_words procedures_words image_words moved moved_all act masked under followed_by statement_nesting statement_needs compiled_if compiled_return compiled_call compiled_statement closed compiled_types compiled_body compiled_procedure compiled_procedures compiled_image fit_locals written compiled_tree compiled emit in_array index_at divided shifted operated evaluate evaluate_all tick passes taken received run_statement frame finish run_procedure with_cells ready_to_load ready_to_serve argument_values ended called_on served_call call
 starred_hold = (refl, (refl, (refl, (refl, (refl, (refl, (refl, (refl, (refl, (refl, tt))))))))))

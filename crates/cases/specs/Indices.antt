@@ -6,7 +6,7 @@ use Rattle.definitions.specs.declared.Checked.TheVariants.{Accepted, Refused}
 use Rattle.definitions.specs.Image.{header_word, array_word, procedure_word, type_word, block_word, statement_word, expression_word}
 use Rattle.definitions.specs.Image.{raw_word, place_of}
 use Rattle.definitions.specs.Reading.{read_expression, read_statements, read_statement, read_types, read_procedure, read_procedures}
-use Rattle.definitions.specs.Reading.{read_array, read_arrays, tables_at, read_rest, read_image}
+use Rattle.definitions.specs.Reading.{read_arrays, read_rest, read_image}
 use Rattle.definitions.specs.Faults.{least}
 use Rattle.definitions.specs.Sorts.{sort_in, mark_statement, sort_faults, statement_sort_faults, procedure_sort_faults}
 use Rattle.definitions.specs.Sorts.{procedures_sort_faults, image_sort_faults}
@@ -54,5 +54,5 @@ indices =
 
 -- Every case of the table holds.
 pub indexed_so : AllHold indices
-unfolding header_word array_word procedure_word type_word block_word statement_word expression_word raw_word place_of read_expression read_statements read_statement read_types read_procedure read_procedures read_array read_arrays tables_at read_rest read_image least sort_in mark_statement sort_faults statement_sort_faults procedure_sort_faults procedures_sort_faults image_sort_faults secret_in rc_after is_constant constant_value bounded_sum bounded_index label_faults statement_label_faults procedure_label_faults procedures_label_faults image_label_faults fault_of without_fault admitted verdict checked flat_map
+unfolding header_word array_word procedure_word type_word block_word statement_word expression_word raw_word place_of read_expression read_statements read_statement read_types read_procedure read_procedures read_arrays read_rest read_image least sort_in mark_statement sort_faults statement_sort_faults procedure_sort_faults procedures_sort_faults image_sort_faults secret_in rc_after is_constant constant_value bounded_sum bounded_index label_faults statement_label_faults procedure_label_faults procedures_label_faults image_label_faults fault_of without_fault admitted verdict checked flat_map
 indexed_so = (refl, (refl, (refl, (refl, (refl, (refl, (refl, (refl, (refl, (refl, tt))))))))))

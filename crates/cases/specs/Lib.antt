@@ -6,4 +6,3 @@ pub mod Indices
 pub mod Numbering
 pub mod Comparisons
 pub mod StepBounds
-pub mod Tables

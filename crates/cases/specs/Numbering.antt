@@ -7,7 +7,7 @@ use Rattle.definitions.specs.declared.Compiled.TheVariants.{Written}
 use Rattle.definitions.specs.Image.{header_word, array_word, procedure_word, type_word, block_word, statement_word}
 use Rattle.definitions.specs.Image.{expression_word, raw_word, place_of}
 use Rattle.definitions.specs.Reading.{read_expression, read_arguments, read_statements, read_statement, read_types}
-use Rattle.definitions.specs.Reading.{read_procedure, read_procedures, read_array, read_arrays, tables_at, read_rest, read_image}
+use Rattle.definitions.specs.Reading.{read_procedure, read_procedures, read_arrays, read_rest, read_image}
 use Rattle.definitions.specs.Faults.{least}
 use Rattle.definitions.specs.Sorts.{sort_in, mark_statement, sort_faults, argument_faults, statement_sort_faults}
 use Rattle.definitions.specs.Sorts.{procedure_sort_faults, procedures_sort_faults, image_sort_faults}
@@ -16,7 +16,7 @@ use Rattle.definitions.specs.Labels.{label_faults, argument_label_faults, statem
 use Rattle.definitions.specs.Labels.{procedures_label_faults, image_label_faults}
 use Rattle.definitions.specs.Checking.{fault_of, without_fault, admitted, verdict, checked}
 use Rattle.definitions.specs.Encoding.{expression_words, argument_words, statement_count, statement_words, block_words}
-use Rattle.definitions.specs.Encoding.{procedure_words, procedures_words, arrays_words, image_words}
+use Rattle.definitions.specs.Encoding.{procedure_words, procedures_words, image_words}
 use Rattle.definitions.specs.Compiling.{moved, moved_all, act, masked, under, followed_by, statement_nesting}
 use Rattle.definitions.specs.Compiling.{statement_needs, compiled_if, compiled_return, compiled_call, compiled_statement}
 use Rattle.definitions.specs.Compiling.{closed, compiled_types, compiled_body, compiled_procedure, compiled_procedures}
@@ -108,11 +108,11 @@ CompiledTo image words = ◌≡◌ {A = Compiled × List ℕ} (compiled true ima
 
 pub numbered_so : CompiledTo pairs pairs_compiled × CompiledTo between between_compiled × CompiledTo temporaries temporaries_compiled
     × CompiledTo every_new_local every_new_local_compiled
-unfolding header_word array_word procedure_word type_word block_word statement_word expression_word raw_word place_of read_expression read_arguments read_statements read_statement read_types read_procedure read_procedures read_array read_arrays tables_at read_rest read_image least sort_in mark_statement sort_faults argument_faults statement_sort_faults procedure_sort_faults procedures_sort_faults image_sort_faults secret_in rc_after is_constant constant_value bounded_sum bounded_index label_faults argument_label_faults statement_label_faults procedure_label_faults procedures_label_faults image_label_faults fault_of without_fault admitted verdict checked flat_map expression_words argument_words statement_count statement_words block_words procedure_words procedures_words arrays_words image_words moved moved_all act masked under followed_by statement_nesting statement_needs compiled_if compiled_return compiled_call compiled_statement closed compiled_types compiled_body compiled_procedure compiled_procedures compiled_image fit_locals written compiled_tree compiled
+unfolding header_word array_word procedure_word type_word block_word statement_word expression_word raw_word place_of read_expression read_arguments read_statements read_statement read_types read_procedure read_procedures read_arrays read_rest read_image least sort_in mark_statement sort_faults argument_faults statement_sort_faults procedure_sort_faults procedures_sort_faults image_sort_faults secret_in rc_after is_constant constant_value bounded_sum bounded_index label_faults argument_label_faults statement_label_faults procedure_label_faults procedures_label_faults image_label_faults fault_of without_fault admitted verdict checked flat_map expression_words argument_words statement_count statement_words block_words procedure_words procedures_words image_words moved moved_all act masked under followed_by statement_nesting statement_needs compiled_if compiled_return compiled_call compiled_statement closed compiled_types compiled_body compiled_procedure compiled_procedures compiled_image fit_locals written compiled_tree compiled
 numbered_so = (refl, refl, refl, refl)
 
 -- "The example keeps its words": the former compiler wrote those that `starred_hold` (Cases) has.
 pub example_keeps_its_words : ◌≡◌ {A = Compiled × List ℕ} (former_compiled true example (replicate (length compiled_example) 0))
     (Written (length compiled_example), compiled_example)
-unfolding header_word array_word procedure_word type_word block_word statement_word expression_word raw_word place_of read_expression read_arguments read_statements read_statement read_types read_procedure read_procedures read_array read_arrays tables_at read_rest read_image least sort_in mark_statement sort_faults argument_faults statement_sort_faults procedure_sort_faults procedures_sort_faults image_sort_faults secret_in rc_after is_constant constant_value bounded_sum bounded_index label_faults argument_label_faults statement_label_faults procedure_label_faults procedures_label_faults image_label_faults fault_of without_fault admitted verdict checked flat_map expression_words argument_words statement_count statement_words block_words procedure_words procedures_words arrays_words image_words moved moved_all act masked under followed_by compiled_return compiled_call closed fit_locals written former_temporaries former_if former_statement former_types former_body former_procedure former_image former_tree former_compiled
+unfolding header_word array_word procedure_word type_word block_word statement_word expression_word raw_word place_of read_expression read_arguments read_statements read_statement read_types read_procedure read_procedures read_arrays read_rest read_image least sort_in mark_statement sort_faults argument_faults statement_sort_faults procedure_sort_faults procedures_sort_faults image_sort_faults secret_in rc_after is_constant constant_value bounded_sum bounded_index label_faults argument_label_faults statement_label_faults procedure_label_faults procedures_label_faults image_label_faults fault_of without_fault admitted verdict checked flat_map expression_words argument_words statement_count statement_words block_words procedure_words procedures_words image_words moved moved_all act masked under followed_by compiled_return compiled_call closed fit_locals written former_temporaries former_if former_statement former_types former_body former_procedure former_image former_tree former_compiled
 example_keeps_its_words = refl

@@ -7,7 +7,7 @@ use Rattle.definitions.specs.declared.Answer.TheVariants.{Done, Stopped, Refused
 use Rattle.definitions.specs.Image.{header_word, array_word, procedure_word, type_word, block_word, statement_word}
 use Rattle.definitions.specs.Image.{expression_word, raw_word, place_of, cell_count, base_of}
 use Rattle.definitions.specs.Reading.{read_expression, read_arguments, read_statements, read_statement, read_types}
-use Rattle.definitions.specs.Reading.{read_procedure, read_procedures, read_array, read_arrays, tables_at, read_rest, read_image}
+use Rattle.definitions.specs.Reading.{read_procedure, read_procedures, read_arrays, read_rest, read_image}
 use Rattle.definitions.specs.Faults.{least}
 use Rattle.definitions.specs.Sorts.{sort_in, mark_statement, sort_faults, argument_faults, statement_sort_faults}
 use Rattle.definitions.specs.Sorts.{procedure_sort_faults, procedures_sort_faults, image_sort_faults}
@@ -41,5 +41,5 @@ pub previewed_so : Both (7 ∷ []) 2 6 (Done 7 2 6) (0x40000006 ∷ 0 ∷ 0x4000
     × Both (7 ∷ []) 1 6 (Stopped 21 9 1 2) (0x40000006 ∷ 0 ∷ []) cells
     × Both (7 ∷ []) 2 3 (Stopped 22 10 2 2) (0x40000006 ∷ 0 ∷ []) cells
     × Both [] 2 6 (Refused 18 0) [] cells
-unfolding header_word array_word procedure_word type_word block_word statement_word expression_word raw_word place_of cell_count base_of read_expression read_arguments read_statements read_statement read_types read_procedure read_procedures read_array read_arrays tables_at read_rest read_image least sort_in mark_statement sort_faults argument_faults statement_sort_faults procedure_sort_faults procedures_sort_faults image_sort_faults secret_in rc_after is_constant constant_value bounded_sum bounded_index label_faults argument_label_faults statement_label_faults procedure_label_faults procedures_label_faults image_label_faults fault_of without_fault admitted flat_map emit in_array index_at evaluate evaluate_all tick passes taken received run_statement frame finish run_procedure with_cells ready_to_load ready_to_serve argument_values ended called_on served_call call preview
+unfolding header_word array_word procedure_word type_word block_word statement_word expression_word raw_word place_of cell_count base_of read_expression read_arguments read_statements read_statement read_types read_procedure read_procedures read_arrays read_rest read_image least sort_in mark_statement sort_faults argument_faults statement_sort_faults procedure_sort_faults procedures_sort_faults image_sort_faults secret_in rc_after is_constant constant_value bounded_sum bounded_index label_faults argument_label_faults statement_label_faults procedure_label_faults procedures_label_faults image_label_faults fault_of without_fault admitted flat_map emit in_array index_at evaluate evaluate_all tick passes taken received run_statement frame finish run_procedure with_cells ready_to_load ready_to_serve argument_values ended called_on served_call call preview
 previewed_so = ((refl, refl), (refl, refl), (refl, refl), (refl, refl))

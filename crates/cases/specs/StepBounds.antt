@@ -8,7 +8,7 @@ use Rattle.definitions.specs.Image.{header_word, array_word, procedure_word, typ
 use Rattle.definitions.specs.Image.{expression_word, raw_word, place_of, cell_count, constant, boolean, assign, conditional, loop}
 use Rattle.definitions.specs.Image.{return, Block, done, sequence}
 use Rattle.definitions.specs.Reading.{read_expression, read_arguments, read_statements, read_statement, read_types}
-use Rattle.definitions.specs.Reading.{read_procedure, read_procedures, read_array, read_arrays, tables_at, read_rest, read_image}
+use Rattle.definitions.specs.Reading.{read_procedure, read_procedures, read_arrays, read_rest, read_image}
 use Rattle.definitions.specs.Faults.{least}
 use Rattle.definitions.specs.Sorts.{sort_in, mark_statement, sort_faults, argument_faults, statement_sort_faults}
 use Rattle.definitions.specs.Sorts.{procedure_sort_faults, procedures_sort_faults, image_sort_faults}
@@ -128,7 +128,7 @@ pub bounded_so :
     × BoundOf beside 0 (Refused 32 10)
     × BoundOf unreached 0 (Refused 32 8)
     × BoundOf [] 0 (Refused 20 0)
-unfolding header_word array_word procedure_word type_word block_word statement_word expression_word raw_word place_of cell_count read_expression read_arguments read_statements read_statement read_types read_procedure read_procedures read_array read_arrays tables_at read_rest read_image least sort_in mark_statement sort_faults argument_faults statement_sort_faults procedure_sort_faults procedures_sort_faults image_sort_faults secret_in rc_after is_constant constant_value bounded_sum bounded_index label_faults argument_label_faults statement_label_faults procedure_label_faults procedures_label_faults image_label_faults fault_of without_fault admitted flat_map with_cells ready_to_load ready_to_serve served statement_cost procedure_cost statement_calls reaches statement_variable_fors callees_variable_fors bounded bound_on bound
+unfolding header_word array_word procedure_word type_word block_word statement_word expression_word raw_word place_of cell_count read_expression read_arguments read_statements read_statement read_types read_procedure read_procedures read_arrays read_rest read_image least sort_in mark_statement sort_faults argument_faults statement_sort_faults procedure_sort_faults procedures_sort_faults image_sort_faults secret_in rc_after is_constant constant_value bounded_sum bounded_index label_faults argument_label_faults statement_label_faults procedure_label_faults procedures_label_faults image_label_faults fault_of without_fault admitted flat_map with_cells ready_to_load ready_to_serve served statement_cost procedure_cost statement_calls reaches statement_variable_fors callees_variable_fors bounded bound_on bound
 bounded_so = (refl, refl, refl, refl, refl, refl, refl, refl, refl, refl, refl, refl, refl, refl, refl, refl, refl, refl, refl, refl, refl, refl, refl)
 
 -- an assignment and a return, an if, and a for, before the rest of a block

@@ -9,13 +9,12 @@ use lib.Dec.{leb}
 use lib.ListN.{length, get_or, take, drop}
 use Rattle.definitions.specs.declared.Compiled.{Compiled}
 use Rattle.definitions.specs.declared.Compiled.TheVariants.{Written, Refused}
-use Rattle.definitions.specs.Image.{arrays_of, procedures_of, Procedure, Image, table_count}
-use Rattle.definitions.specs.Encoding.{word_with, procedures_words, arrays_words, image_words}
+use Rattle.definitions.specs.Image.{arrays_of, procedures_of, Procedure, Image}
+use Rattle.definitions.specs.Encoding.{word_with, procedures_words, image_words}
 use Rattle.definitions.specs.Compiling.{compiled_procedures, compiled_image, fit_locals, written}
 use Rattle.laws.specs.ImageIn.{image_in, procedures_in, image_words_lem, arrays_inside, arrays_part}
 use Rattle.laws.specs.CompiledLocals.{locals_always_fit}
-use Rattle.tables.specs.Table.{place_in, Known}
-use Rattle.tables.specs.Looking.{known_place}
+use Rattle.tables.specs.Table.{Known}
 use Rattle.writer.specs.Writing.{Output, write, writes}
 use Rattle.writer.specs.Laws.{writes_on, writes_app, place, place_far}
 use Rattle.compiler.specs.Compile.{each_on, answer_on}
@@ -26,27 +25,13 @@ compiled_count ps arrays [] = refl
 compiled_count ps arrays (p ∷ rest) = ap suc (compiled_count ps arrays rest)
 
 module _ (image table : List ℕ) (k : Known image table) (n : ℕ) (hn : n ≡ arrays_of (get_or image 0 0)) where
-  -- the first procedure's word stands behind the arrays and their tables
-  arrays_end : (j : ℕ) → j ≡ place_in table 0 → j ≡ 1 + arrays_of (get_or image 0 0) + table_count (image_in image).arrays
-  arrays_end j h =
-      let (m, w) = image_words_lem image k.read in
-      let s = w.fits.some_procedure in
-      let c = w.arrays.words.count in
-      let f = w.first in
-      let e = known_place image table k 0 (omega arith) in
-      omega arith
+  pub arrays_within : (j : ℕ) → j ≡ n → 1 + j ≤ length image
+  arrays_within j h = let (m, w) = image_words_lem image k.read in let a = arrays_inside w in omega arith
 
-  pub arrays_before : (j : ℕ) → j ≡ place_in table 0 → 1 ≤ j
-  arrays_before j h = let e = arrays_end j h in omega arith
-
-  pub arrays_within : (j : ℕ) → j ≡ place_in table 0 → j ≤ length image
-  arrays_within j h = let (m, w) = image_words_lem image k.read in let a = arrays_inside w in let e = arrays_end j h in omega arith
-
-  -- the words of the image's arrays, with their tables
-  arrays_are : (j : ℕ) → j ≡ place_in table 0 → take (j - 1) (drop 1 image) ≡ arrays_words (image_in image).arrays (image_in image).tables
+  -- the array words of the image
+  arrays_are : (j : ℕ) → j ≡ n → take (1 + j - 1) (drop 1 image) ≡ (image_in image).arrays
   arrays_are j h =
-      let e = arrays_end j h in
-      let z : j - 1 ≡ arrays_of (get_or image 0 0) + table_count (image_in image).arrays = omega arith in
+      let z : 1 + j - 1 ≡ arrays_of (get_or image 0 0) = omega arith in
       ap (λ (i : ℕ). take i (drop 1 image)) z ∙ arrays_part (image_words_lem image k.read).1
 
   -- the header of the compiled image
@@ -60,14 +45,14 @@ module _ (image table : List ℕ) (k : Known image table) (n : ℕ) (hn : n ≡ 
       omega arith
 
   pub image_on : (out : List ℕ) (m v j p : ℕ) (t1 : List ℕ) (q : ℕ) (t2 : List ℕ) (r : ℕ) (t3 : List ℕ) → m ≡ procedures_of (get_or image 0 0)
-      → v ≡ word_with 1 (1 * 65536 + n * 256 + m) → j ≡ place_in table 0 → ◌≡◌ {A = Output} (p, t1) (write 0 out v)
-      → ◌≡◌ {A = Output} (q, t2) (writes p t1 (take (j - 1) (drop 1 image)))
+      → v ≡ word_with 1 (1 * 65536 + n * 256 + m) → j ≡ n → ◌≡◌ {A = Output} (p, t1) (write 0 out v)
+      → ◌≡◌ {A = Output} (q, t2) (writes p t1 (take (1 + j - 1) (drop 1 image)))
       → ◌≡◌ {A = Output} (r, t3) (each_on (procedures_in image) (image_in image).arrays (procedures_in image) q t2)
       → ◌≡◌ {A = Output} (r, t3) (writes 0 out (image_words (compiled_image (image_in image))))
   unfolding each_on image_words compiled_image
   image_on out m v j p t1 q t2 r t3 hm hv hj e f g =
-      let A = arrays_words (image_in image).arrays (image_in image).tables in
-      let P = compiled_procedures (procedures_in image) (image_in image).arrays (procedures_in image) in
+      let A = (image_in image).arrays in
+      let P = compiled_procedures (procedures_in image) A (procedures_in image) in
       let F : ◌≡◌ {A = Output} (q, t2) (writes 0 out (v ∷ A)) =
       f ∙ ap (λ ws. writes p t1 ws) (arrays_are j hj) ∙ ap (λ (z : Output). writes z.0 z.1 A) e ∙ sym (writes_on 0 out v A) in
       g ∙ ap (λ (z : Output). writes z.0 z.1 (procedures_words P)) F ∙ sym (writes_app (v ∷ A) (procedures_words P) 0 out)

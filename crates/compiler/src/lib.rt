@@ -11,6 +11,7 @@ ghost use Rattle.compiler.specs.Compile.{each_on, answer_on};
 
 use definitions::Compiled;
 use image_words::limits::largest_image;
+use image_words::lists::wide;
 use image_words::made::header_with;
 use procedures::{copy_words, emit_procedure};
 use tables::SIZE;
@@ -56,8 +57,7 @@ fn emit_image(image: &[u32], table: &[u32; SIZE], out: &mut [u32]) -> usize
         0,
         header_with(1, arrays, image_words::procedures(header)),
     );
-    // the arrays and their tables, up to the first procedure's word
-    let q = copy_words(image, out, p, 1, tables::place(table, 0));
+    let q = copy_words(image, out, p, 1, 1 + wide(arrays));
     emit_each(image, table, out, q)
 }
 

@@ -225,7 +225,6 @@ unfoldable pub compiled_image : Image → Image
 compiled_image image = record {
   form = 1;
   arrays = image.arrays;
-  tables = image.tables;
   procedures = compiled_procedures image.procedures image.arrays image.procedures;
 }
 

@@ -5,13 +5,13 @@ use mathlib.Core.List.{List, [], ◌∷◌, ◌++◌, flat_map}
 use Rattle.definitions.specs.Choice.{pick}
 use Rattle.definitions.specs.declared.Compiled.{Compiled}
 use Rattle.definitions.specs.declared.Compiled.TheVariants.{Written, Refused}
-use Rattle.definitions.specs.Image.{payload_of, array_label, array_length, Procedure, Image, cell_count}
+use Rattle.definitions.specs.Image.{payload_of, array_secret, array_length, Procedure, Image, cell_count}
 use Rattle.definitions.specs.Reading.{Parse, got, refused}
 use Rattle.definitions.specs.Checking.{admitted}
 
--- an array: "Label 0 public, 1 secret", 2 where it is fixed (and public), then its length
+-- an array: "Label 0 public, 1 secret", then its length
 abbrev pub array_fields : ℕ → List ℕ
-array_fields w = array_label w ∷ array_length w ∷ []
+array_fields w = pick (array_secret w) 1 0 ∷ array_length w ∷ []
 
 -- "type: sort × 2 + label; sort 0 word, 1 boolean": the type of parameter k, 0 past the last
 abbrev pub parameter_type : Procedure → ℕ → ℕ

@@ -1,10 +1,10 @@
 -- Document 01, "Image words": the words that spell a tree. Places in the tree are passed over.
-use Rattle.std.specs.Prelude.{ℕ, ◌+◌, ◌*◌, ◌-◌, ltb, length, take, drop}
+use Rattle.std.specs.Prelude.{ℕ, ◌+◌, ◌*◌, ◌-◌, ltb, length}
 use mathlib.Core.List.{List, [], ◌∷◌, ◌++◌, flat_map}
 use Rattle.definitions.specs.Choice.{pick}
 use Rattle.definitions.specs.Image.{Expression, constant, boolean, variable, cell, unary, binary, select}
 use Rattle.definitions.specs.Image.{Statement, assign, store, conditional, loop, return, call, Block, done}
-use Rattle.definitions.specs.Image.{sequence, Procedure, Image, table_length}
+use Rattle.definitions.specs.Image.{sequence, Procedure, Image}
 
 -- "kind in the top 4 bits (one hexadecimal digit), payload in the other 28"
 abbrev pub word_with : ℕ → ℕ → ℕ
@@ -64,12 +64,7 @@ procedure_words p = word_with 3 (p.mode * 65536 + p.parameters * 256 + (length p
 unfoldable pub procedures_words : List Procedure → List ℕ
 procedures_words ps = flat_map procedure_words ps
 
--- array words, each fixed one's table words behind it
-unfoldable pub arrays_words : List ℕ → List ℕ → List ℕ
-arrays_words [] table = []
-arrays_words (w ∷ ws) table = w ∷ (take (table_length w) table ++ arrays_words ws (drop (table_length w) table))
-
 -- "1: header, form × 65536 + arrays × 256 + procedures."
 unfoldable pub image_words : Image → List ℕ
 image_words image = word_with 1 (image.form * 65536 + length image.arrays * 256 + length image.procedures)
-    ∷ (arrays_words image.arrays image.tables ++ procedures_words image.procedures)
+    ∷ (image.arrays ++ procedures_words image.procedures)

@@ -1,6 +1,6 @@
 -- Document 01, "Image words": the words' fields, the limits by form, and the tree that an image's words spell.
 -- Each word that a refusal, a stop or a trace entry can name has its place in the tree: its index in the image.
-use Rattle.std.specs.Prelude.{ℕ, zero, suc, ◌+◌, ◌/◌, ◌%◌, Bool, ◌&&◌, ◌||◌, List, [], ◌∷◌, ◌++◌, ltb, leb, eqb, get_or, take, drop, replicate}
+use Rattle.std.specs.Prelude.{ℕ, zero, suc, ◌+◌, ◌/◌, ◌%◌, Bool, ◌&&◌, ◌||◌, List, [], ◌∷◌, ltb, leb, eqb, get_or}
 use Rattle.definitions.specs.Choice.{pick}
 
 -- "kind in the top 4 bits (one hexadecimal digit), payload in the other 28"
@@ -35,30 +35,17 @@ abbrev pub largest_level : ℕ → ℕ
 largest_level form = pick (eqb form 0) 19 22
 
 -- "2, one per array: label × 65536 + length. Label 0 public, 1 secret."
-abbrev pub array_label : ℕ → ℕ
-array_label w = payload_of w / 65536
-
 abbrev pub array_secret : ℕ → Bool
-array_secret w = eqb (array_label w) 1
+array_secret w = eqb (payload_of w / 65536) 1
 
 abbrev pub array_length : ℕ → ℕ
 array_length w = w % 65536
 
--- Document 02, wish 5: "An array word may have 131072 added to its payload: its cells are then fixed, its label must be
--- public": 131072 is 2 × 65536, so that a label of 2 is that of a fixed array
-abbrev pub array_fixed : ℕ → Bool
-array_fixed w = eqb (array_label w) 2
-
--- wish 5: "as many raw words as its length follow at once"
-abbrev pub table_length : ℕ → ℕ
-table_length w = pick (array_fixed w) (array_length w) 0
-
--- "Length 1 to 256, all together at most 1,024 cells": the arrays before have the given number of cells. Of a fixed array
--- the "label must be public, else 2": 3 is no label
+-- "Length 1 to 256, all together at most 1,024 cells": the arrays before have the given number of cells
 unfoldable pub array_word : ℕ → ℕ → Bool
 array_word cells w =
     eqb (kind_of w) 2
-    && (ltb (array_label w) 3
+    && (ltb (payload_of w / 65536) 2
     && (leb 1 (array_length w) && (leb (array_length w) 256 && leb (cells + array_length w) 1024)))
 
 -- "3 starts a procedure: mode × 65536 + parameters × 256 + locals. Mode 0 open, 1 guarded (form 0 only)."
@@ -179,11 +166,10 @@ pub record Procedure : Type 0 where
   pub types : List ℕ
   pub body : Block
 
--- An image: its form, its array words, the words of its fixed arrays one after the other, its procedures.
+-- An image: its form, its array words, its procedures.
 pub record Image : Type 0 where
   pub form : ℕ
   pub arrays : List ℕ
-  pub tables : List ℕ
   pub procedures : List Procedure
 
 abbrev pub guarded : Procedure → Bool
@@ -206,20 +192,3 @@ unfoldable pub base_of : List ℕ → ℕ → ℕ
 base_of [] a = 0
 base_of (w ∷ ws) zero = 0
 base_of (w ∷ ws) (suc a) = array_length w + base_of ws a
-
--- where the word of an array stands, of arrays whose words begin at a place of an image
-unfoldable pub array_place : List ℕ → ℕ → ℕ → ℕ
-array_place image at zero = at
-array_place image at (suc a) = array_place image (at + 1 + table_length (get_or image at 0)) a
-
--- the number of table words of the given arrays
-unfoldable pub table_count : List ℕ → ℕ
-table_count [] = 0
-table_count (w ∷ ws) = table_length w + table_count ws
-
--- "Load and clear put them there": what the cells of the given arrays then hold, by their table words; those that are not
--- fixed hold 0
-unfoldable pub start_cells : List ℕ → List ℕ → List ℕ
-start_cells [] table = []
-start_cells (w ∷ ws) table = pick (array_fixed w) (take (array_length w) table) (replicate (array_length w) 0)
-    ++ start_cells ws (drop (table_length w) table)

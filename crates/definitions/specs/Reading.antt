@@ -1,9 +1,9 @@
 -- Document 01, "Image words" and "From the image or request": reading words into the tree, or the refusal 1 to 5 with
 -- its place. "Reading stops at its first fault": a part is begun only where the one before it was read.
-use Rattle.std.specs.Prelude.{ℕ, zero, suc, ◌+◌, ◌-◌, Bool, ◌&&◌, List, [], ◌∷◌, ◌++◌, leb, eqb, length, get_or, set, take, drop, replicate}
+use Rattle.std.specs.Prelude.{ℕ, zero, suc, ◌+◌, ◌-◌, Bool, ◌&&◌, List, [], ◌∷◌, leb, eqb, length, get_or, set, replicate}
 use Rattle.definitions.specs.Choice.{pick}
 use Rattle.definitions.specs.Image.{form_of, arrays_of, procedures_of, header_word, largest_image, largest_level}
-use Rattle.definitions.specs.Image.{array_length, table_length, array_word, mode_of, parameters_of, locals_of, procedure_word}
+use Rattle.definitions.specs.Image.{array_length, array_word, mode_of, parameters_of, locals_of, procedure_word}
 use Rattle.definitions.specs.Image.{type_word, block_word, op_of, target_of, called_of, result_of, statement_word}
 use Rattle.definitions.specs.Image.{kind_of, payload_of, expression_word, raw_word, Expression, constant, boolean}
 use Rattle.definitions.specs.Image.{variable, cell, unary, binary, select, Statement, assign, store, conditional}
@@ -109,29 +109,18 @@ read_procedures zero form params me image at = got [] at
 read_procedures (suc n) form params me image at = and_then (read_procedure form params me image at)
     (λ p m. and_then (read_procedures n form (set params me p.parameters) (me + 1) image m) (λ ps o. got (p ∷ ps) o))
 
--- "2, one per array", where the arrays before have the given number of cells; document 02, wish 5: behind the word of a
--- fixed one "as many raw words as its length follow at once", which may be any
-unfoldable pub read_array : ℕ → List ℕ → ℕ → Parse ℕ
-read_array cells image at = on_word image at (λ w. array_word cells w)
-    (λ w. pick (leb (at + 1 + table_length w) (length image)) (got w (at + 1 + table_length w)) (refused 3 (length image)))
-
+-- "2, one per array", where the arrays before have the given number of cells
 unfoldable pub read_arrays : ℕ → ℕ → List ℕ → ℕ → Parse (List ℕ)
 read_arrays zero cells image at = got [] at
-read_arrays (suc n) cells image at = and_then (read_array cells image at)
-    (λ w m. and_then (read_arrays n (cells + array_length w) image m) (λ ws o. got (w ∷ ws) o))
-
--- the table words of arrays whose words begin at a place
-unfoldable pub tables_at : List ℕ → List ℕ → ℕ → List ℕ
-tables_at [] image at = []
-tables_at (w ∷ ws) image at =
-    take (table_length w) (drop (at + 1) image) ++ tables_at ws image (at + 1 + table_length w)
+read_arrays (suc n) cells image at = on_word image at (λ w. array_word cells w)
+    (λ w. and_then (read_arrays n (cells + array_length w) image (at + 1)) (λ ws m. got (w ∷ ws) m))
 
 -- What follows a header, up to the image's end: "4 [first spare word]".
 unfoldable pub read_rest : ℕ → List ℕ → Parse Image
 read_rest header image = and_then (read_arrays (arrays_of header) 0 image 1)
     (λ ws n. and_then (read_procedures (procedures_of header) (form_of header) (replicate 32 0) 0 image n)
     (λ ps m. pick (eqb m (length image))
-    (got (record { form = form_of header; arrays = ws; tables = tables_at ws image 1; procedures = ps }) m)
+    (got (record { form = form_of header; arrays = ws; procedures = ps }) m)
     (refused 4 m)))
 
 -- An image: "1 empty, too long or not whole words", "the header comes before the length". The first argument tells

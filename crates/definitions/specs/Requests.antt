@@ -1,15 +1,14 @@
 -- Document 01, "The machine" and "From the image or request": the requests load, poke, peek, clear and call, with the
--- refusals 17, 18 and 20; document 02: fixed arrays with 30 (wish 5), preview (wish 7), bound (wish 11). "With every
--- request it lends the image and the cells, arrays in order." Each request gives its answer and what the lent cells, and
--- a call's or preview's lent trace, hold afterwards.
-use Rattle.std.specs.Prelude.{ℕ, suc, ◌+◌, Bool, ◌&&◌, List, [], ◌∷◌, ◌++◌, ltb, leb, eqb, length, get_or, set, drop}
+-- refusals 17, 18 and 20; document 02: preview (wish 7), bound (wish 11). "With every request it lends the image and the
+-- cells, arrays in order." Each request gives its answer and what the lent cells, and a call's or preview's lent trace,
+-- hold afterwards.
+use Rattle.std.specs.Prelude.{ℕ, suc, ◌+◌, Bool, ◌&&◌, List, [], ◌∷◌, ◌++◌, ltb, leb, eqb, length, get_or, set, drop, replicate}
 use Rattle.definitions.specs.Choice.{pick}
 use Rattle.definitions.specs.Arithmetic.{truth}
 use Rattle.definitions.specs.Operators.{boolean_sort}
 use Rattle.definitions.specs.declared.Answer.{Answer}
 use Rattle.definitions.specs.declared.Answer.TheVariants.{Done, Stopped, Refused}
-use Rattle.definitions.specs.Image.{array_length, array_fixed, type_sort, Procedure, Image, procedure_at, cell_count, base_of}
-use Rattle.definitions.specs.Image.{start_cells}
+use Rattle.definitions.specs.Image.{array_length, type_sort, Procedure, Image, procedure_at, cell_count, base_of}
 use Rattle.definitions.specs.Reading.{Parse, got, refused}
 use Rattle.definitions.specs.Checking.{admitted}
 use Rattle.definitions.specs.Running.{trace_words, Ran, on, halt, Given, gave, run_procedure}
@@ -46,30 +45,25 @@ served (unready n p) cells f = (Refused n p, cells)
 abbrev pub carried_out : ℕ → Answer
 carried_out v = Done v 0 0
 
--- the image's own cells are 0, those of its fixed arrays their table words; spare ones stay
-abbrev pub started : Image → List ℕ → List ℕ
-started image cells = start_cells image.arrays image.tables ++ drop (cell_count image.arrays) cells
+-- the image's own cells are 0; spare ones stay
+abbrev pub zeroed : Image → List ℕ → List ℕ
+zeroed image cells = replicate (cell_count image.arrays) 0 ++ drop (cell_count image.arrays) cells
 
--- "Load sets cells to 0"; document 02, wish 5: "Load and clear put them there."
+-- "Load sets cells to 0"
 unfoldable pub load : Bool → List ℕ → List ℕ → Served
-load whole image cells = served (ready_to_load whole image (length cells)) cells (λ i. (carried_out 0, started i cells))
+load whole image cells = served (ready_to_load whole image (length cells)) cells (λ i. (carried_out 0, zeroed i cells))
 
--- "Clear zeroes cells", and puts tables as load does
+-- "Clear zeroes cells."
 unfoldable pub clear : Bool → List ℕ → List ℕ → Served
-clear whole image cells = served (ready_to_serve whole image (length cells)) cells (λ i. (carried_out 0, started i cells))
+clear whole image cells = served (ready_to_serve whole image (length cells)) cells (λ i. (carried_out 0, zeroed i cells))
 
 -- "17 no such procedure, array or cell"
 abbrev pub has_cell : Image → ℕ → ℕ → Bool
 has_cell image a i = ltb a (length image.arrays) && ltb i (array_length (get_or image.arrays a 0))
 
-abbrev pub fixed_array : Image → ℕ → Bool
-fixed_array image a = array_fixed (get_or image.arrays a 0)
-
--- document 02, wish 5: "30, .. a poke into a fixed array; .. for a poke after 17"
 unfoldable pub poke : Bool → List ℕ → List ℕ → ℕ → ℕ → ℕ → Served
 poke whole image cells a i v = served (ready_to_serve whole image (length cells)) cells
-    (λ m. pick (has_cell m a i) (pick (fixed_array m a) (Refused 30 0, cells)
-    (carried_out 0, set cells (base_of m.arrays a + i) v)) (Refused 17 0, cells))
+    (λ m. pick (has_cell m a i) (carried_out 0, set cells (base_of m.arrays a + i) v) (Refused 17 0, cells))
 
 unfoldable pub peek : Bool → List ℕ → List ℕ → ℕ → ℕ → Served
 peek whole image cells a i = served (ready_to_serve whole image (length cells)) cells

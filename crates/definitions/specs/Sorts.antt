@@ -1,5 +1,5 @@
 -- Document 01: the sorts of expressions, and the faults 6 (no such variable or array), 7 (wrong sort) and 8 (loop
--- variable rule); document 02, wish 5: 30 (a store into a fixed array). All faults are listed, in the order of the words; the answer is the least of them (Faults).
+-- variable rule). All faults are listed, in the order of the words; the answer is the least of them (Faults).
 use Rattle.std.specs.Prelude.{ℕ, ◌+◌, ◌&&◌, ◌||◌, not, ltb, leb, eqb, length, get_or, set, replicate}
 use mathlib.Core.List.{List, [], ◌∷◌, ◌++◌, flat_map}
 use Rattle.definitions.specs.Choice.{pick}
@@ -7,7 +7,7 @@ use Rattle.definitions.specs.declared.Fault.{Fault}
 use Rattle.definitions.specs.Operators.{operator, word_sort, boolean_sort, unary_operand, unary_result}
 use Rattle.definitions.specs.Image.{Expression, constant, boolean, variable, cell, unary, binary, select, place_of}
 use Rattle.definitions.specs.Image.{Statement, assign, store, conditional, loop, return, call, Block, done}
-use Rattle.definitions.specs.Image.{sequence, Procedure, Image, procedure_at, type_secret, type_sort, array_fixed}
+use Rattle.definitions.specs.Image.{sequence, Procedure, Image, procedure_at, type_secret, type_sort}
 use Rattle.definitions.specs.Faults.{fault_if}
 
 -- the sort of what "6 leaves .. unknown"
@@ -57,14 +57,14 @@ unfoldable mutual
   mark_block done marks = marks
   mark_block (sequence p s b) marks = mark_block b (mark_statement s marks)
 
--- over the type words of the variables, the array words, and what the fors make of each variable
-module _ (types arrays marks : List ℕ) where
+-- over the type words of the variables, the number of arrays, and what the fors make of each variable
+module _ (types : List ℕ) (arrays : ℕ) (marks : List ℕ) where
   -- the faults of an expression
   unfoldable pub sort_faults : Expression → List Fault
   sort_faults (constant p v) = []
   sort_faults (boolean p v) = []
   sort_faults (variable p x) = fault_if (leb (length types) x) 6 p ++ fault_if (eqb (get_or marks x 0) outside) 8 p
-  sort_faults (cell p a i) = fault_if (leb (length arrays) a) 6 p
+  sort_faults (cell p a i) = fault_if (leb arrays a) 6 p
       ++ (sort_faults i ++ wrong_sort word_sort (sort_in types i) (place_of i))
   sort_faults (unary p o e) = sort_faults e ++ wrong_sort (unary_operand o) (sort_in types e) (place_of e)
   sort_faults (binary p o e f) = sort_faults e
@@ -92,16 +92,15 @@ loop_fault types parameters marks x p =
     || (eqb (type_sort (get_or types x 0)) boolean_sort || eqb (get_or marks x 0) inside))) 8 p
 
 -- over the image's procedures; the number of parameters, the type words and the result's type word of the procedure; the
--- array words
-module _ (ps : List Procedure) (parameters : ℕ) (types : List ℕ) (result : ℕ) (arrays : List ℕ) where
+-- number of arrays
+module _ (ps : List Procedure) (parameters : ℕ) (types : List ℕ) (result arrays : ℕ) where
   -- the faults of a statement at place p, by the marks there, and of a block
   unfoldable mutual
     pub statement_sort_faults : List ℕ → ℕ → Statement → List Fault
     statement_sort_faults marks p (assign x e) = fault_if (leb (length types) x) 6 p
         ++ (fault_if (not (eqb (get_or marks x 0) ordinary)) 8 p ++ operand_faults types arrays marks (sort_of types x) e)
-    statement_sort_faults marks p (store a i e) = fault_if (leb (length arrays) a) 6 p
-        ++ (fault_if (array_fixed (get_or arrays a 0)) 30 p
-        ++ (operand_faults types arrays marks word_sort i ++ operand_faults types arrays marks word_sort e))
+    statement_sort_faults marks p (store a i e) = fault_if (leb arrays a) 6 p
+        ++ (operand_faults types arrays marks word_sort i ++ operand_faults types arrays marks word_sort e)
     statement_sort_faults marks p (conditional c a b) =
         operand_faults types arrays marks boolean_sort c ++ (block_sort_faults marks a ++ block_sort_faults marks b)
     statement_sort_faults marks p (loop x f t b) = fault_if (leb (length types) x) 6 p
@@ -119,13 +118,13 @@ module _ (ps : List Procedure) (parameters : ℕ) (types : List ℕ) (result : �
     block_sort_faults marks (sequence p s b) = statement_sort_faults marks p s ++ block_sort_faults marks b
 
 -- A mark for each number that a variable can have: at most 255 of them.
-unfoldable pub procedure_sort_faults : List Procedure → List ℕ → Procedure → List Fault
+unfoldable pub procedure_sort_faults : List Procedure → ℕ → Procedure → List Fault
 procedure_sort_faults ps arrays me = block_sort_faults ps me.parameters me.types me.result arrays
     (mark_block me.body (replicate 256 ordinary)) me.body
 
 -- the faults of some of an image's procedures, one after the other
-unfoldable pub procedures_sort_faults : List Procedure → List ℕ → List Procedure → List Fault
+unfoldable pub procedures_sort_faults : List Procedure → ℕ → List Procedure → List Fault
 procedures_sort_faults ps arrays some = flat_map (λ me. procedure_sort_faults ps arrays me) some
 
 unfoldable pub image_sort_faults : Image → List Fault
-image_sort_faults image = procedures_sort_faults image.procedures image.arrays image.procedures
+image_sort_faults image = procedures_sort_faults image.procedures (length image.arrays) image.procedures

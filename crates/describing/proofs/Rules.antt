@@ -1,6 +1,6 @@
 -- What the returns of the description give, and what their calls ask. Assumes nothing.
 use Prim.Native.Nat.{ℕ, suc, ◌+◌, ◌*◌, ◌-◌, ◌≤◌, ◌<◌}
-use mathlib.Core.Bool.{Bool, true}
+use mathlib.Core.Bool.{Bool, true, false}
 use mathlib.Core.List.{List, [], ◌∷◌, ◌++◌, flat_map}
 use mathlib.Core.Path.{◌≡◌, refl, sym, ap, ◌∙◌}
 use native.Mathlib.Omega.{arith}
@@ -8,11 +8,12 @@ use native.Mathlib.Numerals.{add-one}
 use borrow.Author.Tests.{le-leb, lt-leb, le-ltb, lt-ltb}
 use lib.ListN.{length, get_or, drop, drop_of_length-le}
 use lib.Seq.{drop-cons}
+use Rattle.definitions.specs.Choice.{pick}
 use Rattle.definitions.specs.declared.Checked.{Checked}
 use Rattle.definitions.specs.declared.Checked.TheVariants.{Refused as NotAccepted}
 use Rattle.definitions.specs.declared.Compiled.{Compiled}
 use Rattle.definitions.specs.declared.Compiled.TheVariants.{Written, Refused}
-use Rattle.definitions.specs.Image.{payload_of, array_label, array_length, form_of, arrays_of, procedures_of, mode_of, Procedure, Image, cell_count}
+use Rattle.definitions.specs.Image.{payload_of, array_secret, array_length, form_of, arrays_of, procedures_of, mode_of, Procedure, Image, cell_count}
 use Rattle.definitions.specs.Reading.{Parse, got, refused}
 use Rattle.definitions.specs.Checking.{fault_of, admitted, verdict, checked}
 use Rattle.definitions.specs.Describing.{array_fields, parameter_type, parameter_types, procedure_fields, description, described_tree, described}
@@ -42,9 +43,15 @@ module _ {A : Type 0} (F : A → List ℕ) (l : List A) (k o : ℕ) (out : List 
 
 -- ---- arrays
 
-pub array_on : (o : ℕ) (out : List ℕ) (w a b : ℕ) → a ≡ array_label w → b ≡ array_length w → (r : Output) → r ≡ writes o out (a ∷ b ∷ [])
+pub label_secret : (w : ℕ) (s : Bool) → s ≡ array_secret w → s ≡ true → ◌≡◌ {A = ℕ} 1 (pick (array_secret w) 1 0)
+label_secret w s e t = ap (λ (b : Bool). pick {A = ℕ} b 1 0) (sym t ∙ e)
+
+pub label_public : (w : ℕ) (s : Bool) → s ≡ array_secret w → s ≡ false → ◌≡◌ {A = ℕ} 0 (pick (array_secret w) 1 0)
+label_public w s e t = ap (λ (b : Bool). pick {A = ℕ} b 1 0) (sym t ∙ e)
+
+pub array_on : (o : ℕ) (out : List ℕ) (w a b : ℕ) → a ≡ pick (array_secret w) 1 0 → b ≡ array_length w → (r : Output) → r ≡ writes o out (a ∷ b ∷ [])
     → r ≡ writes o out (array_fields w)
-array_on o out w a b ha hb r e = e ∙ ap (λ (x : ℕ). writes o out (x ∷ b ∷ [])) ha ∙ ap (λ (x : ℕ). writes o out (array_label w ∷ x ∷ [])) hb
+array_on o out w a b ha hb r e = e ∙ ap (λ (x : ℕ). writes o out (x ∷ b ∷ [])) ha ∙ ap (λ (x : ℕ). writes o out (pick (array_secret w) 1 0 ∷ x ∷ [])) hb
 
 module _ (table : List ℕ) (full : length (arrays_in table) ≡ array_count_in table) (k o : ℕ) (out : List ℕ) (X : Output)
     (u : writes o out (flat_map array_fields (drop k (arrays_in table))) ≡ X) (count : ℕ) (n : count ≡ array_count_in table) where

@@ -1,7 +1,8 @@
 // What an image has, as a host needs it that is to lend cells and arguments: form, arrays, procedures with their types, a word for each.
 ghost use Rattle.std.specs.Prelude.{◌≡◌, true, length};
 ghost use mathlib.Core.List.{[], ◌∷◌, flat_map};
-ghost use Rattle.definitions.specs.Image.{cell_count};
+ghost use Rattle.definitions.specs.Choice.{pick};
+ghost use Rattle.definitions.specs.Image.{array_secret, cell_count};
 ghost use Rattle.definitions.specs.Checking.{fault_of};
 ghost use Rattle.definitions.specs.Describing.{array_fields, parameter_type, parameter_types, procedure_fields, description, described};
 ghost use Rattle.laws.specs.ImageIn.{image_in, procedures_in};
@@ -11,7 +12,7 @@ ghost use Rattle.writer.specs.Writing.{writes};
 
 use definitions::{Checked, Compiled};
 use image_words::lists::{narrow, wide};
-use image_words::{array_label, array_length, form, mode, payload, procedures};
+use image_words::{array_length, array_secret, form, mode, payload, procedures};
 use requests::cells::cell_count;
 use tables::signatures::{procedure_word, result_type, variable_type};
 use tables::{SIZE, array, array_count, parameters};
@@ -29,11 +30,21 @@ const ARRAY_WORDS: usize = 2;
 // Mode, number of parameters, the result's type, the parameters' types.
 const PROCEDURE_WORDS: usize = 12;
 
+// The label of an array: 0 public, 1 secret.
+fn label(w: u32) -> u32
+    ensures { result ≡ pick (array_secret w) 1 0 }
+{
+    if array_secret(w) {
+        return 1;
+    }
+    0
+}
+
 // One array.
 fn put_array(out: &mut [u32], o: usize, w: u32) -> usize
     ensures { (result, out.new) ≡ writes o out.old (array_fields w) }
 {
-    put_two(out, o, array_label(w), array_length(w))
+    put_two(out, o, label(w), array_length(w))
 }
 
 // All arrays.

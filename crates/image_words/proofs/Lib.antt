@@ -1,3 +1,2 @@
 pub mod ListRules
 pub mod SkipRules
-pub mod TableRules

@@ -1,7 +1,7 @@
 // The words of an image: their fields by the paper's names, and what may stand where. No other crate takes a word apart.
 ghost use Rattle.std.specs.Prelude.{◌≡◌, ◌+◌, ◌<◌};
-ghost use Rattle.definitions.specs.Image.{kind_of, payload_of, form_of, arrays_of, procedures_of, array_label, array_secret, array_length, array_fixed, table_length};
-ghost use Rattle.definitions.specs.Image.{mode_of, parameters_of, locals_of, type_secret, type_sort, op_of, target_of, called_of, result_of};
+ghost use Rattle.definitions.specs.Image.{kind_of, payload_of, form_of, arrays_of, procedures_of, array_secret, array_length, mode_of};
+ghost use Rattle.definitions.specs.Image.{parameters_of, locals_of, type_secret, type_sort, op_of, target_of, called_of, result_of};
 
 pub mod kinds; // the kinds of expressions
 pub mod ops; // the ops of statements
@@ -62,30 +62,6 @@ pub fn array_length(w: u32) -> u32
     ensures { (result ≡ array_length w) × (result < 65536) }
 {
     w % HIGH_UNIT
-}
-
-// Its label: 0 public, 1 secret, 2 public with fixed cells.
-pub fn array_label(w: u32) -> u32
-    ensures { result ≡ array_label w }
-{
-    w % KIND_UNIT / HIGH_UNIT
-}
-
-// Whether its cells are fixed.
-pub fn array_fixed(w: u32) -> bool
-    ensures { result ≡ array_fixed w }
-{
-    w % KIND_UNIT / HIGH_UNIT == 2
-}
-
-// The number of table words behind it.
-pub fn table_length(w: u32) -> u32
-    ensures { (result ≡ table_length w) × (result < 65536) }
-{
-    if array_fixed(w) {
-        return array_length(w);
-    }
-    0
 }
 
 // Of a procedure's word: mode, numbers of parameters and locals.

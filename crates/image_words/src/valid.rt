@@ -22,7 +22,7 @@ pub fn array_word(cells: u32, w: u32) -> bool
 {
     let length = w % HIGH_UNIT;
     (w / KIND_UNIT == 2)
-        & ((w % KIND_UNIT / HIGH_UNIT < 3)
+        & ((w % KIND_UNIT / HIGH_UNIT < 2)
             & ((1 <= length) & ((length <= 256) & (cells + length <= 1024))))
 }
 

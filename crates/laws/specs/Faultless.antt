@@ -45,7 +45,7 @@ least_none (all_more {f} {fs} n x) e = absurd (least_found (f ∷ fs) f here n e
 
 numbered_sorts : (image : Image) → All Numbered (image_sort_faults image)
 numbered_sorts image =
-    all_sort_faults (λ p r e. omega arith) (λ p r e. omega arith) (λ p r e. omega arith) (λ p r e. omega arith) image (anywhere_procedures image.procedures)
+    all_sort_faults (λ p r e. omega arith) (λ p r e. omega arith) (λ p r e. omega arith) image (anywhere_procedures image.procedures)
 
 numbered_labels : (image : Image) → All Numbered (image_label_faults image)
 numbered_labels image =

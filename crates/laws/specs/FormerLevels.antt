@@ -8,9 +8,9 @@ use Rattle.std.proofs.Math.Dec.{leb}
 use Rattle.definitions.specs.Choice.{pick}
 use Rattle.definitions.specs.declared.Checked.TheVariants.{Refused}
 use Rattle.definitions.specs.Image.{form_of, arrays_of, procedures_of, header_word, largest_image, largest_level, mode_of, parameters_of}
-use Rattle.definitions.specs.Image.{locals_of, procedure_word, type_word, array_word, array_length, table_length, Procedure, Image}
+use Rattle.definitions.specs.Image.{locals_of, procedure_word, type_word, array_word, array_length, Procedure, Image}
 use Rattle.definitions.specs.Reading.{Parse, got, refused, and_then, on_word, read_block, read_types, read_arrays, read_procedure}
-use Rattle.definitions.specs.Reading.{read_procedures, read_rest, read_image, read_array, tables_at}
+use Rattle.definitions.specs.Reading.{read_procedures, read_rest, read_image}
 use Rattle.definitions.specs.Checking.{without_fault, verdict, admitted, checked}
 use Rattle.statements.specs.FormerLimits.{read_procedure_by, read_procedures_by, read_rest_by, read_image_by, former_level}
 use Rattle.statements.specs.FormerLimits.{former_read_image, From, from_got, from_refused, Kept, same_part, same_refusal, deeper, SameAnswers}
@@ -41,7 +41,7 @@ by_procedures (suc n) form params me image at =
 
 -- an image of these arrays and procedures, where it ends with them
 abbrev to_the_end : ℕ → List ℕ → List ℕ → List Procedure → ℕ → Parse Image
-to_the_end header image ws ps m = pick (eqb m (length image)) (got (record { form = form_of header; arrays = ws; tables = tables_at ws image 1; procedures = ps }) m) (refused 4 m)
+to_the_end header image ws ps m = pick (eqb m (length image)) (got (record { form = form_of header; arrays = ws; procedures = ps }) m) (refused 4 m)
 
 by_rest : (header : ℕ) (image : List ℕ) → read_rest_by largest_level header image ≡ read_rest header image
 unfolding read_rest_by read_rest
@@ -73,24 +73,13 @@ kept_types image (suc n) at =
     (λ t. and_then (read_types n image (at + 1)) (λ ts o. got (t ∷ ts) o))
     (λ i g. kept_after (kept_types image n (at + 1)) (λ ts o. same_part))
 
-kept_array : (image : List ℕ) (cells at : ℕ) → Kept image (read_array cells image at) (read_array cells image at)
-unfolding read_array
-kept_array image cells at =
-    kept_word image at (λ w. array_word cells w) (tabled image at) (tabled image at)
-    (λ i g. room (leb (at + 1 + table_length (get_or image at 0)) (length image)) (get_or image at 0) (at + 1 + table_length (get_or image at 0)))
-  where
-    tabled : List ℕ → ℕ → ℕ → Parse ℕ
-    tabled image at w = pick (leb (at + 1 + table_length w) (length image)) (got w (at + 1 + table_length w)) (refused 3 (length image))
-
-    room : (b : Bool) (w n : ℕ) → Kept image {A = ℕ} (pick b (got w n) (refused 3 (length image))) (pick b (got w n) (refused 3 (length image)))
-    room true w n = same_part
-    room false w n = same_refusal {k = 3} (omega arith)
-
 kept_arrays : (image : List ℕ) (n cells at : ℕ) → Kept image (read_arrays n cells image at) (read_arrays n cells image at)
 unfolding read_arrays
 kept_arrays image zero cells at = same_part
 kept_arrays image (suc n) cells at =
-    kept_after (kept_array image cells at) (λ w m. kept_after (kept_arrays image n (cells + array_length w) m) (λ ws o. same_part))
+    kept_word image at (λ w. array_word cells w) (λ w. and_then (read_arrays n (cells + array_length w) image (at + 1)) (λ ws o. got (w ∷ ws) o))
+    (λ w. and_then (read_arrays n (cells + array_length w) image (at + 1)) (λ ws o. got (w ∷ ws) o))
+    (λ i g. kept_after (kept_arrays image n (cells + array_length (get_or image at 0)) (at + 1)) (λ ws o. same_part))
 
 -- what stands after a procedure's result type
 abbrev types_and_body : (ℕ → ℕ) → ℕ → List ℕ → ℕ → List ℕ → ℕ → ℕ → ℕ → Parse Procedure
@@ -146,7 +135,7 @@ module _ (less more : ℕ → ℕ) (grows : (form : ℕ) → less form < more fo
       ended ws ps o = go (eqb o (length image))
         where
           tree : Image
-          tree = record { form = form_of header; arrays = ws; tables = tables_at ws image 1; procedures = ps }
+          tree = record { form = form_of header; arrays = ws; procedures = ps }
 
           go : (b : Bool) → Kept image {A = Image} (pick b (got tree o) (refused 4 o)) (pick b (got tree o) (refused 4 o))
           go true = same_part
@@ -155,7 +144,7 @@ module _ (less more : ℕ → ℕ) (grows : (form : ℕ) → less form < more fo
       last : (ws : List ℕ) (ps : List Procedure) (m o : ℕ) → m ≤ o → From m (to_the_end header image ws ps o)
       last ws ps m o h = go (eqb o (length image))
         where
-          go : (b : Bool) → From m {A = Image} (pick b (got (record { form = form_of header; arrays = ws; tables = tables_at ws image 1; procedures = ps }) o) (refused 4 o))
+          go : (b : Bool) → From m {A = Image} (pick b (got (record { form = form_of header; arrays = ws; procedures = ps }) o) (refused 4 o))
           go true = from_got h
           go false = from_refused h
 

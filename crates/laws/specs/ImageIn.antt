@@ -3,18 +3,16 @@ use Rattle.std.specs.Prelude.{◌≡◌, Bool, false, List, [], ℕ, ◌+◌, �
 use Rattle.std.proofs.Common.{sym, ap, ◌∙◌, arith, length-take, length-drop, ext_get_or, get_or-take, get_or-drop}
 use Rattle.std.proofs.Math.Bool.{true}
 use Rattle.definitions.specs.Choice.{pick}
-use Rattle.definitions.specs.Image.{kind_of, form_of, arrays_of, procedures_of, largest_image, Procedure, Image, cell_count, table_count}
-use Rattle.definitions.specs.Encoding.{arrays_words}
+use Rattle.definitions.specs.Image.{kind_of, form_of, arrays_of, procedures_of, largest_image, Procedure, Image, cell_count}
 use Rattle.definitions.specs.Reading.{got, read_image}
 use Rattle.laws.specs.Parses.{ok, end_of, tree_or, tree_of, got_parts}
 use Rattle.laws.specs.WordTests.{header_limits}
-use Rattle.laws.specs.Spelled.{Words, words_on}
-use Rattle.laws.specs.Tables.{arrays_length}
+use Rattle.laws.specs.Spelled.{Words}
 use Rattle.laws.specs.ReadImages.{ImageWords, open_image}
 
 -- what stands for the tree of words that are refused
 abbrev pub no_image : Image
-no_image = record { form = 0; arrays = []; tables = []; procedures = [] }
+no_image = record { form = 0; arrays = []; procedures = [] }
 
 unfoldable pub image_in : List ℕ → Image
 image_in words = tree_or no_image (read_image true words)
@@ -77,18 +75,12 @@ module _ {whole : Bool} {image : List ℕ} {tree : Image} {next : ℕ} (w : Imag
   pub cells_limit : cell_count tree.arrays ≤ 1024
   cells_limit = let m = w.arrays.most (omega arith) in omega arith
 
-  pub arrays_inside : 1 + arrays_of (get_or image 0 0) + table_count tree.arrays ≤ length image
+  pub arrays_inside : 1 + arrays_of (get_or image 0 0) ≤ length image
   arrays_inside =
       let s = w.some in
       let a = w.arrays.words.after in
       let k = w.arrays.words.within (omega arith) in
       omega arith
 
-  -- the words of its arrays, with their tables
-  pub arrays_part : take (arrays_of (get_or image 0 0) + table_count tree.arrays) (drop 1 image) ≡ arrays_words tree.arrays tree.tables
-  arrays_part =
-      let c = w.arrays.words.count in
-      let l = arrays_length tree.arrays tree.tables w.fits.tables_fit in
-      let i = arrays_inside in
-      words_part image 1 (arrays_of (get_or image 0 0) + table_count tree.arrays) (arrays_words tree.arrays tree.tables) _
-      (words_on (omega arith) w.section) (omega arith)
+  pub arrays_part : take (arrays_of (get_or image 0 0)) (drop 1 image) ≡ tree.arrays
+  arrays_part = words_part image 1 (arrays_of (get_or image 0 0)) tree.arrays _ w.arrays.words arrays_inside

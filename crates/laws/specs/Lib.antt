@@ -24,11 +24,9 @@ pub mod Ready
 pub mod ReadImages
 pub mod Reads
 pub mod Spelled
-pub mod Started
 pub mod StatementInversion
 pub mod StepBounds
 pub mod Sums
-pub mod Tables
 pub mod Tests
 pub mod Trees
 pub mod VariableFors

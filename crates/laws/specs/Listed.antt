@@ -21,22 +21,22 @@ pub data All (P : Fault → Type 0) : List Fault → Type 0 where
   all_more : {f : Fault} {fs : List Fault} → P f → All P fs → All P (f ∷ fs)
 
 module _ {P : Fault → Type 0} where
-  pub all_append : {fs gs : List Fault} → All P fs → All P gs → All P (fs ++ gs)
+  all_append : {fs gs : List Fault} → All P fs → All P gs → All P (fs ++ gs)
   all_append all_none y = y
   all_append (all_more h x) y = all_more h (all_append x y)
 
-  pub all_if : (c : Bool) (k p : ℕ) → P (fault k p) → All P (fault_if c k p)
+  all_if : (c : Bool) (k p : ℕ) → P (fault k p) → All P (fault_if c k p)
   all_if true k p h = all_more h all_none
   all_if false k p h = all_none
 
 ruleset listed = (all_append, all_if, own_place)
 
--- ---- 6 to 8, and 30
+-- ---- 6 to 8
 
 module _ {P : Fault → Type 0} {R : ℕ → Type 0}
     (name : (p : ℕ) → R p → P (fault 6 p)) (sort : (p : ℕ) → R p → P (fault 7 p)) (variable : (p : ℕ) → R p → P (fault 8 p)) where
-  module _ (types arrays : List ℕ) where
-    pub all_sorts : (marks : List ℕ) {e : Expression} → ExpressionPlaces R e → All P (sort_faults types arrays marks e)
+  module _ (types : List ℕ) (arrays : ℕ) where
+    all_sorts : (marks : List ℕ) {e : Expression} → ExpressionPlaces R e → All P (sort_faults types arrays marks e)
     unfolding sort_faults
     all_sorts marks (at_constant h) = all_none
     all_sorts marks (at_boolean h) = all_none
@@ -47,46 +47,45 @@ module _ {P : Fault → Type 0} {R : ℕ → Type 0}
     all_sorts marks (at_select h r s t) =
         let i = all_sorts marks r in let j = all_sorts marks s in let k = all_sorts marks t in search (listed, sort) depth 8
 
-    pub all_arguments : (marks callee : List ℕ) (k : ℕ) {es : List Expression} → ExpressionsPlaces R es
+    all_arguments : (marks callee : List ℕ) (k : ℕ) {es : List Expression} → ExpressionsPlaces R es
         → All P (argument_faults types arrays marks callee k es)
     unfolding argument_faults
     all_arguments marks callee k no_expression = all_none
     all_arguments marks callee k (and_expression r s) =
         let i = all_sorts marks r in let j = all_arguments marks callee (k + 1) s in search (listed, sort)
 
-  module _ (fixed : (p : ℕ) → R p → P (fault 30 p)) where
-    module _ (types arrays : List ℕ) (ps : List Procedure) (parameters result : ℕ) where
+    module _ (ps : List Procedure) (parameters result : ℕ) where
       mutual
         unfolding statement_sort_faults block_sort_faults
 
         all_statement : (marks : List ℕ) {p : ℕ} {s : Statement} → R p → StatementPlaces R s
             → All P (statement_sort_faults ps parameters types result arrays marks p s)
-        all_statement marks h (in_assign r) = let i = all_sorts types arrays marks r in search (listed, name, sort, variable)
+        all_statement marks h (in_assign r) = let i = all_sorts marks r in search (listed, name, sort, variable)
         all_statement marks h (in_store r s) =
-            let i = all_sorts types arrays marks r in let j = all_sorts types arrays marks s in search (listed, name, sort, fixed) depth 8
+            let i = all_sorts marks r in let j = all_sorts marks s in search (listed, name, sort)
         all_statement marks h (in_conditional r s t) =
-            let i = all_sorts types arrays marks r in let j = all_block marks s in let k = all_block marks t in search (listed, sort)
+            let i = all_sorts marks r in let j = all_block marks s in let k = all_block marks t in search (listed, sort)
         all_statement marks h (in_loop {x = x} r s t) =
-            let i = all_sorts types arrays marks r in
-            let j = all_sorts types arrays marks s in
+            let i = all_sorts marks r in
+            let j = all_sorts marks s in
             let k = all_block (set marks x inside) t in search (listed, name, sort, variable) depth 8
-        all_statement marks h (in_return r) = let i = all_sorts types arrays marks r in search (listed, sort)
+        all_statement marks h (in_return r) = let i = all_sorts marks r in search (listed, sort)
         all_statement marks h (in_call {f = f} r) =
-            let i = all_arguments types arrays marks (procedure_at ps f).types 0 r in search (listed, name, sort, variable)
+            let i = all_arguments marks (procedure_at ps f).types 0 r in search (listed, name, sort, variable)
 
         all_block : (marks : List ℕ) {b : Block} → BlockPlaces R b → All P (block_sort_faults ps parameters types result arrays marks b)
         all_block marks in_done = all_none
         all_block marks (in_sequence h r s) = all_append (all_statement marks h r) (all_block marks s)
 
-    all_procedures : (ps : List Procedure) (arrays : List ℕ) {qs : List Procedure} → ProceduresPlaces R qs → All P (procedures_sort_faults ps arrays qs)
-    unfolding procedures_sort_faults procedure_sort_faults flat_map
-    all_procedures ps arrays no_procedure_lem = all_none
-    all_procedures ps arrays (and_procedure {p} r s) =
-        all_append (all_block p.types arrays ps p.parameters p.result _ r) (all_procedures ps arrays s)
+  all_procedures : (ps : List Procedure) (arrays : ℕ) {qs : List Procedure} → ProceduresPlaces R qs → All P (procedures_sort_faults ps arrays qs)
+  unfolding procedures_sort_faults procedure_sort_faults flat_map
+  all_procedures ps arrays no_procedure_lem = all_none
+  all_procedures ps arrays (and_procedure {p} r s) =
+      all_append (all_block p.types arrays ps p.parameters p.result _ r) (all_procedures ps arrays s)
 
-    pub all_sort_faults : (image : Image) → ProceduresPlaces R image.procedures → All P (image_sort_faults image)
-    unfolding image_sort_faults
-    all_sort_faults image r = all_procedures image.procedures image.arrays r
+  pub all_sort_faults : (image : Image) → ProceduresPlaces R image.procedures → All P (image_sort_faults image)
+  unfolding image_sort_faults
+  all_sort_faults image r = all_procedures image.procedures (length image.arrays) r
 
 -- ---- 9 to 13
 

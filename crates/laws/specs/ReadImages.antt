@@ -1,24 +1,24 @@
 -- Reading types, procedures, arrays and whole images: as Reads says of their parts, with where their words stand and how
 -- their bodies read. Assumes nothing.
 use Prim.Native.Nat.{ℕ, zero, suc, ◌+◌, ◌*◌, ◌-◌, ◌≤◌, ◌<◌}
-use Rattle.std.specs.Prelude.{Bool, ◌&&◌, ◌≡◌, get_or, set, drop, replicate}
+use Rattle.std.specs.Prelude.{Bool, ◌&&◌, ◌≡◌, leb, get_or, set, replicate}
 use Rattle.std.proofs.Math.Bool.{true, false}
-use mathlib.Core.List.{List, [], ◌∷◌, ◌++◌, flat_map}
-use Rattle.std.proofs.Math.Path.{refl, ap, sym}
-use Rattle.std.proofs.Common.{subst, ◌∙◌, add-zero, length-set, get_or-set_same, get_or-set_other}
+use mathlib.Core.List.{List, [], ◌∷◌, flat_map}
+use Rattle.std.proofs.Math.Path.{refl, ap}
+use Rattle.std.proofs.Common.{sym, subst, ◌∙◌, add-zero, leb-true, eqb-true, length-set, get_or-set_same, get_or-set_other}
 use native.Mathlib.Omega.{arith}
 use Rattle.std.proofs.Math.Nat.{zero-add}
-use borrow.Author.Tests.{leb-true, eqb-true, eqb-false}
-use Rattle.std.proofs.Math.Dec.{leb, eqb}
-use Rattle.std.proofs.Math.ListN.{length, take, length-append}
+use Rattle.std.proofs.lemmas.Bool.{eqb-false}
+use Rattle.std.proofs.Math.Dec.{eqb}
+use Rattle.std.proofs.Math.ListN.{length}
 use Rattle.std.proofs.lemmas.List.{length-replicate}
 use Rattle.definitions.specs.Choice.{pick}
 use Rattle.definitions.specs.Image.{kind_of, form_of, arrays_of, procedures_of, header_word, largest_image, largest_level}
-use Rattle.definitions.specs.Image.{cell_count, array_length, table_length, table_count, array_place, array_word, mode_of, parameters_of, locals_of, procedure_word}
+use Rattle.definitions.specs.Image.{cell_count, array_length, array_word, mode_of, parameters_of, locals_of, procedure_word}
 use Rattle.definitions.specs.Image.{type_word, Block, Procedure, Image, procedure_at}
 use Rattle.definitions.specs.Reading.{Parse, got, refused, Reader, and_then, on_word, read_block, read_types, read_procedure}
-use Rattle.definitions.specs.Reading.{read_procedures, read_array, read_arrays, tables_at, read_rest, read_image}
-use Rattle.definitions.specs.Encoding.{word_with, procedure_words, procedures_words, arrays_words, image_words}
+use Rattle.definitions.specs.Reading.{read_procedures, read_arrays, read_rest, read_image}
+use Rattle.definitions.specs.Encoding.{word_with, procedure_words, procedures_words, image_words}
 use Rattle.laws.specs.Tests.{and_left, and_right}
 use Rattle.laws.specs.WordTests.{header_limits, procedure_limits, array_limits}
 use Rattle.laws.specs.Trees.{BlockPlaces, ProceduresPlaces, no_procedure_lem, and_procedure}
@@ -26,8 +26,7 @@ use Rattle.statements.specs.Limits.{AllTypes, no_types, more_types, FitsArrays, 
 use Rattle.statements.specs.Limits.{FitsProcedures, no_procedures, more_procedures, arity_of, FitsImage}
 use Rattle.laws.specs.Spelled.{On, on_none, on_more, on_join, on_length, on_end, on_rest, Words, words_on}
 use Rattle.laws.specs.Reads.{Arities, Reads, reads, refuses, read_as, no_image_lem, wrong_word, spare_word, reads_then}
-use Rattle.laws.specs.Reads.{reads_word, ends_early, Inside, ReadBlock, reads_block}
-use Rattle.laws.specs.Tables.{on_part, part_length, arrays_first, arrays_length}
+use Rattle.laws.specs.Reads.{reads_word, Inside, ReadBlock, reads_block}
 use Rattle.laws.specs.Places.{block_ends_lem}
 use Rattle.laws.specs.Levels.{Agree}
 use Rattle.laws.specs.Parameters.{block_params}
@@ -76,101 +75,33 @@ module _ (image : List ℕ) where
         words = on_more h refl x.words;
       })))
 
-  -- so many array words of the image from a place on, with their tables
-  pub record TabledWords (at n : ℕ) (ws : List ℕ) (next : ℕ) : Type 0 where
-    pub count : length ws ≡ n
-    pub word : (i : ℕ) → i < n → get_or ws i 0 ≡ get_or image (array_place image at i) 0
-    pub after : next ≡ at + n + table_count ws
-    pub within : at ≤ length image → next ≤ length image
-
   -- the array words with the number of their cells, where those before have the given number
   pub record ArrayWords (cells at n : ℕ) (ws : List ℕ) (next : ℕ) : Type 0 where
-    pub words : TabledWords at n ws next
+    pub words : Words image at n ws next
     pub most : cells ≤ 1024 → cells + cell_count ws ≤ 1024
     pub lengths : (i : ℕ) → i < n → (1 ≤ array_length (get_or ws i 0)) × (array_length (get_or ws i 0) ≤ 256)
 
   record ReadArrays (cells n at : ℕ) (ws : List ℕ) (next : ℕ) : Type 0 where
     count : length ws ≡ n
     fits : FitsArrays cells ws
-    each : (i : ℕ) → i < length ws → get_or ws i 0 ≡ get_or image (array_place image at i) 0
-    tables : length (tables_at ws image at) ≡ table_count ws
-    words : On image at (arrays_words ws (tables_at ws image at)) next
-
-  -- the word of an array, or one after it
-  each_more : (at w : ℕ) (ws : List ℕ) → get_or image at 0 ≡ w
-      → ((i : ℕ) → i < length ws → get_or ws i 0 ≡ get_or image (array_place image (at + 1 + table_length w) i) 0)
-      → (i : ℕ) → i < suc (length ws) → get_or (w ∷ ws) i 0 ≡ get_or image (array_place image at i) 0
-  unfolding array_place
-  each_more at w ws e k zero h = sym e
-  each_more at w ws e k (suc i) h = rw e (k i (omega arith))
-
-  -- an array's word, with the place behind its table
-  pub record ReadArray (cells at w next : ℕ) : Type 0 where
-    pub inside : at < length image
-    pub same : get_or image at 0 ≡ w
-    pub tested : array_word cells w ≡ true
-    pub behind : next ≡ at + 1 + table_length w
-    pub room : next ≤ length image
-
-  reads_array : (cells at : ℕ) → Reads (length image) (ReadArray cells at) (read_array cells image at)
-  unfolding read_array
-  reads_array cells at =
-      reads_word image at (λ w. array_word cells w)
-      (λ w. pick (leb (at + 1 + table_length w) (length image)) (got w (at + 1 + table_length w)) (refused 3 (length image)))
-      (λ h g. go h g (leb (at + 1 + table_length (get_or image at 0)) (length image)) refl)
-    where
-      go : at < length image → array_word cells (get_or image at 0) ≡ true → (b : Bool) → leb (at + 1 + table_length (get_or image at 0)) (length image) ≡ b
-          → Reads (length image) (ReadArray cells at)
-          (pick b (got (get_or image at 0) (at + 1 + table_length (get_or image at 0))) (refused 3 (length image)))
-      go h g true e = reads (record { inside = h; same = refl; tested = g; behind = refl; room = leb-true _ _ e })
-      go h g false e = refuses ends_early
-
-  -- the arrays behind an array's word, put together with it
-  whole_arrays : (cells n at w m : ℕ) → ReadArray cells at w m → (ws : List ℕ) (next : ℕ) → ReadArrays (cells + array_length w) n m ws next
-      → ReadArrays cells (suc n) at (w ∷ ws) next
-  unfolding arrays_words tables_at table_count
-  whole_arrays cells n at w m r ws next x =
-      let within = r.room in
-      let place = r.behind in
-      let room : at + 1 + table_length w ≤ length image = omega arith in
-      let table = take (table_length w) (drop (at + 1) image) in
-      let long : length table ≡ table_length w = part_length image (table_length w) (at + 1) room in
-      let y : ReadArrays (cells + array_length w) n (at + 1 + table_length w) ws next = rw place at x in
-      let rest = y.tables in
-      let all = length-append table (tables_at ws image (at + 1 + table_length w)) in
-      record {
-        count = ap suc y.count;
-        fits = more_arrays r.tested y.fits;
-        each = each_more at w ws r.same y.each;
-        tables = omega arith;
-        words = rw (arrays_first w ws table (tables_at ws image (at + 1 + table_length w)) long)
-            (on_more r.inside r.same (on_join (on_part image (table_length w) (at + 1) room) y.words));
-      }
+    words : On image at ws next
 
   reads_arrays : (cells n at : ℕ) → Reads (length image) (ReadArrays cells n at) (read_arrays n cells image at)
-  unfolding read_arrays arrays_words tables_at table_count
-  reads_arrays cells zero at =
-      reads (record { count = refl; fits = no_arrays; each = λ i h. absurd (omega arith); tables = refl; words = on_none })
+  unfolding read_arrays
+  reads_arrays cells zero at = reads (record { count = refl; fits = no_arrays; words = on_none })
   reads_arrays cells (suc n) at =
-      reads_then (reads_array cells at)
-      (λ w m r. reads_then (reads_arrays (cells + array_length w) n m) (λ ws next x. reads (whole_arrays cells n at w m r ws next x)))
+      reads_word image at (λ w. array_word cells w)
+      (λ w. and_then (read_arrays n (cells + array_length w) image (at + 1)) (λ ws m. got (w ∷ ws) m))
+      (λ h g. reads_then (reads_arrays (cells + array_length (get_or image at 0)) n (at + 1)) (λ ws m x. reads (record {
+        count = ap suc x.count;
+        fits = more_arrays g x.fits;
+        words = on_more h refl x.words;
+      })))
 
   array_words : {cells n at : ℕ} {ws : List ℕ} {next : ℕ} → ReadArrays cells n at ws next → ArrayWords cells at n ws next
-  array_words {at = at} {ws = ws} x =
+  array_words x =
       let c = x.count in
-      let t = x.tables in
-      let e = on_end x.words in
-      let l = arrays_length ws (tables_at ws image at) t in
-      record {
-        words = record {
-          count = c;
-          word = λ i h. x.each i (omega arith);
-          after = omega arith;
-          within = λ h. let b = on_length x.words h in omega arith;
-        };
-        most = few_cells x.fits;
-        lengths = λ i h. array_length_lem x.fits i (omega arith);
-      }
+      record { words = words_on c x.words; most = few_cells x.fits; lengths = λ i h. array_length_lem x.fits i (omega arith) }
 
   -- ---- procedures
 
@@ -211,7 +142,6 @@ module _ (image : List ℕ) where
 
     record ReadProcedures (params : List ℕ) (me n at : ℕ) (ps : List Procedure) (next : ℕ) : Type 0 where
       count : length ps ≡ n
-      first : 1 ≤ n → (procedure_at ps 0).place ≡ at
       fits : (arity : ℕ → ℕ) → Arities params me arity → ((i : ℕ) → i < length ps → arity (me + i) ≡ arity_of ps i)
           → FitsProcedures form arity me ps
       each : (arity : ℕ → ℕ) → Arities params me arity → ((i : ℕ) → i < length ps → arity (me + i) ≡ arity_of ps i)
@@ -316,7 +246,6 @@ module _ (image : List ℕ) where
     reads_procedures zero params me at room =
         reads (record {
           count = refl;
-          first = λ h. absurd (omega arith);
           fits = λ arity known all. no_procedures;
           each = λ arity known all last more i h. absurd (omega arith);
           places = no_procedure_lem;
@@ -327,7 +256,6 @@ module _ (image : List ℕ) where
         (λ p m x. reads_then (reads_procedures n (set params me p.parameters) (me + 1) m (rw (length-set params me p.parameters) (omega arith)))
         (λ ps o y. reads (record {
           count = ap suc y.count;
-          first = λ h. x.place;
           fits = λ arity known all.
               let first : arity me ≡ p.parameters = ap arity (omega arith) ∙ all 0 (omega arith) in
               more_procedures first (x.fits arity known)
@@ -339,9 +267,6 @@ module _ (image : List ℕ) where
           places = and_procedure x.places y.places;
           words = on_join x.words y.words;
         })))
-
-pub open_array : (image : List ℕ) (cells at w next : ℕ) → read_array cells image at ≡ got w next → ReadArray image cells at w next
-open_array image cells at w next r = read_as (rw r at (reads_array image cells at))
 
 pub open_procedure : (form : ℕ) (params : List ℕ) (me : ℕ) (image : List ℕ) (at : ℕ) (p : Procedure) (next : ℕ)
     → read_procedure form params me image at ≡ got p next → ProcedureWords image form params me at p next
@@ -372,14 +297,9 @@ pub record ImageWords (whole : Bool) (image : List ℕ) (tree : Image) (next : �
   pub is_whole : whole ≡ true
   pub short : length image ≤ largest_image (form_of (get_or image 0 0))
   pub form : tree.form ≡ form_of (get_or image 0 0)
-  pub arrays : ArrayWords image 0 1 (arrays_of (get_or image 0 0)) tree.arrays (1 + length tree.arrays + table_count tree.arrays)
-  pub tables : tree.tables ≡ tables_at tree.arrays image 1
-  pub section : On image 1 (arrays_words tree.arrays tree.tables) (1 + length tree.arrays + table_count tree.arrays)
-  pub procedures : read_procedures (procedures_of (get_or image 0 0)) tree.form (replicate 32 0) 0 image
-      (1 + length tree.arrays + table_count tree.arrays)
+  pub arrays : ArrayWords image 0 1 (arrays_of (get_or image 0 0)) tree.arrays (1 + length tree.arrays)
+  pub procedures : read_procedures (procedures_of (get_or image 0 0)) tree.form (replicate 32 0) 0 image (1 + length tree.arrays)
       ≡ got tree.procedures (length image)
-  -- the first procedure's word stands behind the arrays and their tables
-  pub first : (procedure_at tree.procedures 0).place ≡ 1 + length tree.arrays + table_count tree.arrays
   pub count : length tree.procedures ≡ procedures_of (get_or image 0 0)
   pub each : (params : List ℕ) → Arities params (length tree.procedures) (arity_of tree.procedures) → (f : ℕ) → f < length tree.procedures
       → (m : ℕ) × ProcedureWords image tree.form params f (procedure_at tree.procedures f).place (procedure_at tree.procedures f) m
@@ -392,7 +312,7 @@ module _ (image : List ℕ) (some : 0 < length image) (h : header_word (get_or i
     (long : length image ≤ largest_image (form_of (get_or image 0 0))) where
   -- the tree of an image, by its arrays and its procedures
   abbrev image_of : List ℕ → List Procedure → Image
-  image_of ws ps = record { form = form_of (get_or image 0 0); arrays = ws; tables = tables_at ws image 1; procedures = ps }
+  image_of ws ps = record { form = form_of (get_or image 0 0); arrays = ws; procedures = ps }
 
   -- its parts, put together
   whole_image : (ws : List ℕ) (n : ℕ) → ReadArrays image 0 (arrays_of (get_or image 0 0)) 1 ws n
@@ -406,8 +326,7 @@ module _ (image : List ℕ) (some : 0 < length image) (h : header_word (get_or i
       let c = x.count in
       let d = y.count in
       let end = on_end x.words in
-      let l = arrays_length ws (tables_at ws image 1) x.tables in
-      let b : n ≡ 1 + length ws + table_count ws = omega arith in
+      let b : n ≡ 1 + length ws = omega arith in
       record {
         some = omega arith;
         header = h;
@@ -415,12 +334,9 @@ module _ (image : List ℕ) (some : 0 < length image) (h : header_word (get_or i
         short = long;
         form = refl;
         arrays = array_words image (rw b at x);
-        tables = refl;
-        section = rw b at x.words;
         procedures =
             ap (λ z. read_procedures (procedures_of (get_or image 0 0)) (form_of (get_or image 0 0)) (replicate 32 0) 0 image z) (sym b) ∙ r
             ∙ ap (λ z. got ps z) e;
-        first = y.first one ∙ b;
         count = d;
         each = λ params known f l.
             rw zero-add at (y.each (arity_of ps) (λ g b. absurd (omega arith)) (λ i b. ap (arity_of ps) (zero-add i)) params (λ g b. known g (omega arith)) f l);
@@ -429,7 +345,6 @@ module _ (image : List ℕ) (some : 0 < length image) (h : header_word (get_or i
           form_fits = form;
           few_arrays = omega arith;
           arrays_fit = x.fits;
-          tables_fit = x.tables;
           some_procedure = omega arith;
           few_procedures = omega arith;
           procedures_fit = y.fits (arity_of ps) (λ f l. absurd (omega arith)) (λ i l. ap (arity_of ps) (zero-add i));

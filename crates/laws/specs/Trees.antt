@@ -71,7 +71,7 @@ anywhere (unary p o e) = at_unary tt (anywhere e)
 anywhere (binary p o e f) = at_binary tt (anywhere e) (anywhere f)
 anywhere (select p c e f) = at_select tt (anywhere c) (anywhere e) (anywhere f)
 
-pub anywhere_all : (es : List Expression) → ExpressionsPlaces Anywhere es
+anywhere_all : (es : List Expression) → ExpressionsPlaces Anywhere es
 anywhere_all [] = no_expression
 anywhere_all (e ∷ es) = and_expression (anywhere e) (anywhere_all es)
 

@@ -1,11 +1,11 @@
 -- What the tests of a word say: its kind, the kind or op that is left where the others are excluded, and its fields'
 -- limits. Assumes nothing.
-use Rattle.std.specs.Prelude.{◌≡◌, refl, Bool, true, false, ◌&&◌, not, ℕ, zero, suc, ◌+◌, ◌/◌, ◌≤◌, ◌<◌, eqb, ltb}
+use Rattle.std.specs.Prelude.{◌≡◌, refl, Bool, true, false, ℕ, ◌+◌, ◌/◌, ◌≤◌, ◌<◌, eqb, ltb}
 use Rattle.std.proofs.Common.{sym, ◌∙◌}
-use borrow.Author.Tests.{eqb-true, ltb-true, leb-true, ne_eqb, le-ltb, le-leb, eqb-false}
+use borrow.Author.Tests.{eqb-true, ltb-true, leb-true, ne_eqb, le-ltb, eqb-false}
 use native.Mathlib.Omega.{arith}
 use Rattle.definitions.specs.Choice.{pick}
-use Rattle.definitions.specs.Image.{kind_of, payload_of, form_of, arrays_of, procedures_of, header_word, array_label, array_length, array_secret, array_fixed}
+use Rattle.definitions.specs.Image.{kind_of, payload_of, form_of, arrays_of, procedures_of, header_word, array_length}
 use Rattle.definitions.specs.Image.{array_word, mode_of, parameters_of, locals_of, procedure_word, type_word, block_word}
 use Rattle.definitions.specs.Image.{raw_word, op_of, target_of, called_of, statement_word, expression_word}
 use Rattle.laws.specs.Tests.{or_false, and_left, and_right, conjuncts}
@@ -109,32 +109,15 @@ unfolding type_word
 type_limits w h = (eqb-true _ _ (search conjuncts), ltb-true _ _ (search conjuncts))
 
 pub array_limits : (cells w : ℕ) → array_word cells w ≡ true
-    → (kind_of w ≡ 2) × (array_label w < 3) × (1 ≤ array_length w) × (array_length w ≤ 256) × (cells + array_length w ≤ 1024)
+    → (kind_of w ≡ 2) × (payload_of w / 65536 < 2) × (1 ≤ array_length w) × (array_length w ≤ 256) × (cells + array_length w ≤ 1024)
 unfolding array_word
 array_limits cells w h = (
   eqb-true _ _ (search conjuncts),
-  ltb-true (array_label w) 3 (search conjuncts),
+  ltb-true (payload_of w / 65536) 2 (search conjuncts),
   leb-true 1 (array_length w) (search conjuncts),
   leb-true (array_length w) 256 (search conjuncts depth 8),
   leb-true (cells + array_length w) 1024 (search conjuncts depth 8),
 )
-
--- Document 02, wish 5: "An array word may have 131072 added to its payload: its cells are then fixed, its label must be public, else 2"
-pub fixed_added : (cells w : ℕ) → array_word cells w ≡ true → array_label w < 2
-    → (array_word cells (w + 131072) ≡ not (array_secret w)) × (array_fixed (w + 131072) ≡ not (array_secret w)) × (array_length (w + 131072) ≡ array_length w)
-unfolding array_word
-fixed_added cells w h l =
-    let (kind, label, one, most, all) = array_limits cells w h in
-    let k : kind_of (w + 131072) ≡ 2 = omega arith in
-    let n : array_length (w + 131072) ≡ array_length w = omega arith in
-    let p : array_label (w + 131072) ≡ array_label w + 2 = omega arith in
-    rw (k, n, p, le-leb 1 (array_length w) one, le-leb (array_length w) 256 most, le-leb (cells + array_length w) 1024 all)
-    (by_label (array_label w) l)
-  where
-    by_label : (label : ℕ) → label < 2 → ((ltb (label + 2) 3 && true) ≡ not (eqb label 1)) × (eqb (label + 2) 2 ≡ not (eqb label 1)) × (array_length w ≡ array_length w)
-    by_label zero d = (refl, refl, refl)
-    by_label (suc zero) d = (refl, refl, refl)
-    by_label (suc (suc n)) d = absurd (omega arith)
 
 pub raw_limits : (w : ℕ) → raw_word w ≡ true → 268435456 ≤ w
 unfolding raw_word

@@ -1,4 +1,3 @@
 pub mod TurnRules
 pub mod CallRules
 pub mod MachineRules
-pub mod StartRules

@@ -1,16 +1,14 @@
 -- Each way in which a request on an accepted image ends. Assumes nothing.
 use mathlib.Core.Path.{◌≡◌, refl, sym, ap, ◌∙◌}
-use mathlib.Core.Bool.{Bool, true, false}
 use mathlib.Core.List.{List, ◌++◌}
-use Prim.Native.Nat.{ℕ, ◌+◌, ◌*◌, ◌<◌}
+use Prim.Native.Nat.{ℕ, ◌+◌, ◌*◌, ◌-◌, ◌≤◌, ◌<◌}
 use native.Mathlib.Omega.{arith}
-use lib.ListN.{get_or, set, take, drop}
-use lib.Seq.{take-set-lt, get_or-take}
-use Rattle.definitions.specs.Bytes.{words_of, bytes_of}
-use Rattle.definitions.specs.Image.{array_fixed, base_of, cell_count, start_cells}
+use lib.ListN.{get_or, set, take, drop, replicate, length-replicate, replicate-append-replicate}
+use lib.Seq.{take_at, take-set-lt, get_or-take}
+use Rattle.definitions.specs.Bytes.{bytes_of}
+use Rattle.definitions.specs.Image.{base_of}
 use Rattle.definitions.specs.declared.Answer.{Answer}
 use Rattle.definitions.specs.declared.Answer.TheVariants.{Done, Stopped, Refused}
-use Rattle.laws.specs.ImageIn.{image_in}
 use Rattle.tables.specs.Table.{arrays_in}
 use Rattle.requests.specs.declared.cells.Slot.{Slot}
 use Rattle.requests.specs.declared.cells.Slot.TheVariants.{At, Nothing}
@@ -19,13 +17,17 @@ use Rattle.requests.specs.OwnCells.{clear_on, poke_on, peek_on}
 use Rattle.requests.proofs.CellRules.{slot_at, slot_nothing, cell_within}
 use Rattle.machine.specs.declared.Machine.{Machine}
 use Rattle.machine.specs.Turns.{held, Kept, Turned, given_back}
-use Rattle.machine.specs.Serving.{Starts, start_on}
 
-pub cleared : (m : Machine) (image table cells : List ℕ) → Starts image table m.count
-    → take (cell_count (image_in (words_of image)).arrays) cells ≡ start_cells (image_in (words_of image)).arrays (image_in (words_of image)).tables
-    → Turned m (record { machine = record { cells = cells; count = m.count }; answer = Done 0 0 0 }) (start_on image)
+take_zeros : (n m : ℕ) → n ≤ m → ◌≡◌ {A = List ℕ} (take n (replicate m 0)) (replicate n 0)
+take_zeros n m h =
+    let e : n + (m - n) ≡ m = omega arith in
+    let s : ◌≡◌ {A = List ℕ} (replicate n 0 ++ replicate (m - n) 0) (replicate m 0) = rw e at (replicate-append-replicate {A = ℕ} n (m - n) 0) in
+    rw (← s) (take_at (replicate n 0) (replicate (m - n) 0) n (length-replicate {A = ℕ} n 0))
+
+pub cleared : (m : Machine) → m.count ≤ 1024
+    → Turned m (record { machine = record { cells = replicate 1024 0; count = m.count }; answer = Done 0 0 0 }) (clear_on m.count)
 unfolding clear_on Kept
-cleared m image table cells s e = record { gives = rw (s.all, e); kept = refl }
+cleared m h = record { gives = rw (take_zeros m.count 1024 h); kept = refl }
 
 module _ (m : Machine) (table : List ℕ) (a i : ℕ) (fits : Fits table m.count) (s : Slot) (e : s ≡ slot_in table a i) where
   pub no_poke : (v : ℕ) → s ≡ Nothing → Turned m (record { machine = m; answer = Refused 17 0 }) (poke_on (arrays_in table) (held m) a i v)
@@ -43,22 +45,12 @@ module _ (m : Machine) (table : List ℕ) (a i : ℕ) (fits : Fits table m.count
     pub slot_small : n < 1024
     slot_small = omega (arith, slot_below, fits.all, fits.most)
 
-    -- 30 for a cell of a fixed array
-    pub fixed_poke : (w v : ℕ) (b : Bool) → w ≡ get_or (arrays_in table) a 0 → b ≡ array_fixed w → b ≡ true
-        → Turned m (record { machine = m; answer = Refused 30 0 }) (poke_on (arrays_in table) (held m) a i v)
-    unfolding poke_on Kept
-    fixed_poke w v b hw hb q =
-        let (t, z) = slot_at table a i m.count fits s e n f in
-        let g : array_fixed (get_or (arrays_in table) a 0) ≡ true = ap (λ (x : ℕ). array_fixed x) (sym hw) ∙ sym hb ∙ q in
-        record { gives = rw (t, g); kept = refl }
-
-    pub poked : (w v : ℕ) (b : Bool) → w ≡ get_or (arrays_in table) a 0 → b ≡ array_fixed w → b ≡ false
+    pub poked : (v : ℕ)
         → Turned m (record { machine = record { cells = set m.cells n v; count = m.count }; answer = Done 0 0 0 }) (poke_on (arrays_in table) (held m) a i v)
     unfolding poke_on Kept
-    poked w v b hw hb k =
+    poked v =
         let (t, q) = slot_at table a i m.count fits s e n f in
-        let g : array_fixed (get_or (arrays_in table) a 0) ≡ false = ap (λ (x : ℕ). array_fixed x) (sym hw) ∙ sym hb ∙ k in
-        record { gives = rw (t, g, take-set-lt m.count m.cells n v slot_below, q); kept = refl }
+        record { gives = rw (t, take-set-lt m.count m.cells n v slot_below, q); kept = refl }
 
     pub peeked : (v : ℕ) → v ≡ get_or m.cells n 0 → Turned m (record { machine = m; answer = Done v 0 0 }) (peek_on (arrays_in table) (held m) a i)
     unfolding peek_on Kept

@@ -1,14 +1,13 @@
 -- What a call and a preview on an accepted image need, and what they give. Assumes nothing.
 use Rattle.std.specs.Prelude.{◌≡◌, List, [], ℕ, length, take}
-use Rattle.definitions.specs.Bytes.{words_of, lent}
+use Rattle.definitions.specs.Bytes.{lent}
 use Rattle.definitions.specs.declared.Answer.{Answer}
 use Rattle.definitions.specs.declared.Answer.TheVariants.{Done, Stopped, Refused}
 use Rattle.definitions.specs.Image.{cell_count, Image, procedure_at}
 use Rattle.definitions.specs.Running.{trace_words, run_procedure}
-use Rattle.definitions.specs.Requests.{Served, Called, ended}
+use Rattle.definitions.specs.Requests.{Called, ended}
 use Rattle.laws.specs.ImageIn.{image_in}
 use Rattle.tables.specs.Table.{params_in, Known}
-use Rattle.requests.specs.OwnCells.{clear_on}
 use Rattle.reader.specs.Ends.{BlockEnds}
 use Rattle.machine.specs.declared.Machine.{Machine}
 use Rattle.machine.specs.declared.Turn.{Turn}
@@ -23,15 +22,6 @@ pub record Serves (image table ends : List ℕ) (count : ℕ) : Type 0 where
   pub known : Known image table
   pub block_ends : BlockEnds image (params_in table) ends
   pub all : Whole image count
-
--- what load and clear need: the image lent in bytes, its table, and a machine with its cells
-pub record Starts (image table : List ℕ) (count : ℕ) : Type 0 where
-  pub known : Known (words_of image) table
-  pub all : Whole (words_of image) count
-
--- what load and clear give on the image's own cells
-abbrev pub start_on : List ℕ → Served
-start_on image = clear_on (image_in (words_of image)).arrays (image_in (words_of image)).tables
 
 -- a call whose procedure and number of arguments were tested
 unfoldable pub ran_on : Image → List ℕ → ℕ → List ℕ → ℕ → ℕ → Called

@@ -1,23 +1,19 @@
 // The machine by value: each request takes it and hands it back beside the answer.
-ghost use Rattle.std.specs.Prelude.{◌≡◌, ◌++◌, ◌+◌, ◌*◌, ◌≤◌, length, take, drop, replicate};
+ghost use Rattle.std.specs.Prelude.{◌≡◌, ◌++◌, ◌*◌, ◌≤◌, length, take, drop};
 ghost use Rattle.definitions.specs.Bytes.{words_of, bytes_of};
 ghost use Rattle.definitions.specs.Requests.{called_on};
-ghost use Rattle.definitions.specs.Image.{array_fixed, array_length, table_length, cell_count, start_cells};
-ghost use Rattle.definitions.specs.Choice.{pick};
 ghost use Rattle.laws.specs.ImageIn.{image_in};
-ghost use Rattle.tables.specs.Table.{arrays_in, Known};
+ghost use Rattle.tables.specs.Table.{arrays_in};
 ghost use Rattle.requests.specs.Cells.{Fits};
-ghost use Rattle.requests.specs.OwnCells.{poke_on, peek_on};
+ghost use Rattle.requests.specs.OwnCells.{clear_on, poke_on, peek_on};
 ghost use Rattle.machine.specs.Turns.{held, Turned, given_back};
-ghost use Rattle.machine.specs.Serving.{Serves, Starts, start_on, TurnedCall, TurnedPreview};
+ghost use Rattle.machine.specs.Serving.{Serves, TurnedCall, TurnedPreview};
 
 use definitions::Answer;
 use evaluator::CELLS;
-use image_words::lists::wide;
-use image_words::{array_fixed, array_length, table_length};
 use requests::cells::{Slot, find_cell};
 use runs::call_on;
-use tables::{SIZE, array, array_count};
+use tables::SIZE;
 
 mod runs; // a call over an array of cells
 pub mod small; // the machine of an image with few cells
@@ -34,45 +30,6 @@ pub struct Machine {
 pub struct Turn {
     pub machine: Machine,
     pub answer: Answer,
-}
-
-// So many words of the image, from the word at index `at` on, go to the cells from `to` on.
-fn put_table(image: &[u8], cells: &mut [u32], at: usize, to: usize, n: usize)
-    requires { (4 * (at + n) ≤ length image.now) × (to + n ≤ length cells.old) }
-    ensures { cells.new ≡ take to cells.old ++ (take n (drop at (words_of image.now)) ++ drop (to + n) cells.old) }
-{
-    let from = 4 * at;
-    words::read_words(&image[from..], &mut cells[to..], n);
-}
-
-// The cells of one array, whose word w stands at index `at`: where it is fixed they are its table's words, else they stay.
-fn start_array(image: &[u8], cells: &mut [u32], w: u32, at: usize, base: usize)
-    requires { (4 * (at + 1 + table_length w) ≤ length image.now) × (base + array_length w ≤ length cells.old) }
-    ensures { cells.new ≡ take base cells.old ++ (pick (array_fixed w) (take (array_length w) (drop (at + 1) (words_of image.now)))
-        (take (array_length w) (drop base cells.old)) ++ drop (base + array_length w) cells.old) }
-{
-    if array_fixed(w) {
-        put_table(image, cells, at + 1, base, wide(array_length(w)));
-    }
-}
-
-// The cells that load and clear put. The tables are found by adding up: behind the word of a fixed array stands its table, then the next array's word.
-fn start_cells(image: &[u8], table: &[u32; SIZE], cells: &mut [u32])
-    requires { Known (words_of image.now) table.now × (cells.old ≡ replicate 1024 0) }
-    ensures { take (cell_count (image_in (words_of image.now)).arrays) cells.new
-        ≡ start_cells (image_in (words_of image.now)).arrays (image_in (words_of image.now)).tables }
-{
-    let count = array_count(table);
-    let mut k: u32 = 0;
-    let mut at: usize = 1;
-    let mut base: usize = 0;
-    while wide(k) < count {
-        let w = array(table, k);
-        start_array(image, cells, w, at, base);
-        at = at + 1 + wide(table_length(w));
-        base += wide(array_length(w));
-        k += 1;
-    }
 }
 
 impl Machine {
@@ -99,24 +56,25 @@ impl Machine {
         words::write_words(&first, cells, count);
     }
 
-    // Load: every cell is 0, but for those of fixed arrays, which hold their table words.
-    pub fn load(self, image: &[u8], table: &[u32; SIZE]) -> Turn
-        requires { Starts image.now table.now self.count }
-        ensures { Turned self result (start_on image.now) }
+    // Load: every cell is 0.
+    pub fn load(self) -> Turn
+        requires { self.count ≤ 1024 }
+        ensures { Turned self result (clear_on self.count) }
     {
-        self.clear(image, table)
+        self.clear()
     }
 
-    // Clear: the same.
-    pub fn clear(self, image: &[u8], table: &[u32; SIZE]) -> Turn
-        requires { Starts image.now table.now self.count }
-        ensures { Turned self result (start_on image.now) }
+    // Clear: every cell is 0.
+    pub fn clear(self) -> Turn
+        requires { self.count ≤ 1024 }
+        ensures { Turned self result (clear_on self.count) }
     {
         let count = self.count;
-        let mut cells = [0u32; CELLS];
-        start_cells(image, table, &mut cells);
         Turn {
-            machine: Machine { cells, count },
+            machine: Machine {
+                cells: [0u32; CELLS],
+                count,
+            },
             answer: Answer::Done(0, 0, 0),
         }
     }
@@ -132,12 +90,6 @@ impl Machine {
                 answer: Answer::Refused(17, 0),
             };
         };
-        if array_fixed(array(table, a)) {
-            return Turn {
-                machine: self,
-                answer: Answer::Refused(30, 0),
-            };
-        }
         let count = self.count;
         let mut cells = self.cells;
         cells[at] = v;

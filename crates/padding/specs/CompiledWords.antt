@@ -7,7 +7,7 @@ use Rattle.definitions.specs.declared.Compiled.TheVariants.{Written}
 use Rattle.definitions.specs.Bytes.{Bytes, words_of, bytes_of, lent}
 use Rattle.definitions.specs.Image.{header_word, array_word, procedure_word, type_word, block_word, statement_word, expression_word, raw_word, place_of, cell_count, base_of}
 use Rattle.definitions.specs.Reading.{read_expression, read_arguments, read_statements, read_statement, read_types, read_procedure, read_procedures}
-use Rattle.definitions.specs.Reading.{read_array, read_arrays, tables_at, read_rest, read_image}
+use Rattle.definitions.specs.Reading.{read_arrays, read_rest, read_image}
 use Rattle.definitions.specs.Faults.{least}
 use Rattle.definitions.specs.Sorts.{sort_in, mark_statement, sort_faults, argument_faults, statement_sort_faults, procedure_sort_faults, procedures_sort_faults}
 use Rattle.definitions.specs.Sorts.{image_sort_faults}
@@ -15,7 +15,7 @@ use Rattle.definitions.specs.Labels.{secret_in, rc_after, is_constant, constant_
 use Rattle.definitions.specs.Labels.{statement_label_faults, procedure_label_faults, procedures_label_faults, image_label_faults}
 use Rattle.definitions.specs.Checking.{fault_of, without_fault, admitted}
 use Rattle.definitions.specs.Encoding.{expression_words, argument_words, statement_count, statement_words, block_words, procedure_words, procedures_words}
-use Rattle.definitions.specs.Encoding.{arrays_words, image_words}
+use Rattle.definitions.specs.Encoding.{image_words}
 use Rattle.definitions.specs.Compiling.{moved, moved_all, act, masked, under, followed_by, statement_nesting, statement_needs, compiled_if, compiled_return}
 use Rattle.definitions.specs.Compiling.{compiled_call, compiled_statement, closed, compiled_types, compiled_body, compiled_procedure, compiled_procedures}
 use Rattle.definitions.specs.Compiling.{compiled_image, fit_locals, written, compiled_tree, compiled}
@@ -42,7 +42,7 @@ compiled_words =
 
 -- they go to the front of any output with room for them
 written_words : (out : List ℕ) → leb 60 (length out) ≡ true → ◌≡◌ {A = Compiled × List ℕ} (compiled true source_words out) (Written 60, compiled_words ++ drop 60 out)
-unfolding source_words header_word array_word procedure_word type_word block_word statement_word expression_word raw_word place_of cell_count base_of read_expression read_arguments read_statements read_statement read_types read_procedure read_procedures read_array read_arrays tables_at read_rest read_image least sort_in mark_statement sort_faults argument_faults statement_sort_faults procedure_sort_faults procedures_sort_faults image_sort_faults secret_in rc_after is_constant constant_value bounded_sum bounded_index label_faults argument_label_faults statement_label_faults procedure_label_faults procedures_label_faults image_label_faults fault_of without_fault admitted flat_map expression_words argument_words statement_count statement_words block_words procedure_words procedures_words arrays_words image_words moved moved_all act masked under followed_by statement_nesting statement_needs compiled_if compiled_return compiled_call compiled_statement closed compiled_types compiled_body compiled_procedure compiled_procedures compiled_image fit_locals written compiled_tree compiled
+unfolding source_words header_word array_word procedure_word type_word block_word statement_word expression_word raw_word place_of cell_count base_of read_expression read_arguments read_statements read_statement read_types read_procedure read_procedures read_arrays read_rest read_image least sort_in mark_statement sort_faults argument_faults statement_sort_faults procedure_sort_faults procedures_sort_faults image_sort_faults secret_in rc_after is_constant constant_value bounded_sum bounded_index label_faults argument_label_faults statement_label_faults procedure_label_faults procedures_label_faults image_label_faults fault_of without_fault admitted flat_map expression_words argument_words statement_count statement_words block_words procedure_words procedures_words image_words moved moved_all act masked under followed_by statement_nesting statement_needs compiled_if compiled_return compiled_call compiled_statement closed compiled_types compiled_body compiled_procedure compiled_procedures compiled_image fit_locals written compiled_tree compiled
 written_words out h = rw h
 
 -- and of lent bytes to the front

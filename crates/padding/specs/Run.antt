@@ -1,14 +1,14 @@
 -- Load, pokes and the call, each by computing on the compiled words. Assumes nothing.
-use Rattle.std.specs.Prelude.{ℕ, zero, suc, ◌+◌, ◌*◌, ◌≤◌, ◌<◌, true, false, ◌≡◌, refl, ltb, length, get_or, set, replicate}
+use Rattle.std.specs.Prelude.{ℕ, zero, suc, ◌+◌, ◌*◌, ◌≤◌, ◌<◌, true, ◌≡◌, refl, ltb, length, get_or, set, replicate}
 use mathlib.Core.List.{List, [], ◌∷◌, ◌++◌, flat_map, append-nil}
 use Rattle.std.proofs.Common.{sym, ap, subst, ◌∙◌, arith, lt-ltb, length-append, length-set, drop_of_length-le}
 use Rattle.std.proofs.lemmas.List.{length-replicate}
 use Rattle.std.proofs.Math.Seq.{set-append_seam, append_snoc}
 use Rattle.definitions.specs.declared.Answer.TheVariants.{Done}
 use Rattle.definitions.specs.Bytes.{words_of, bytes_of, lent}
-use Rattle.definitions.specs.Image.{header_word, array_word, procedure_word, type_word, block_word, statement_word, expression_word, raw_word, place_of, cell_count, base_of, start_cells, Image}
+use Rattle.definitions.specs.Image.{header_word, array_word, procedure_word, type_word, block_word, statement_word, expression_word, raw_word, place_of, cell_count, base_of, Image}
 use Rattle.definitions.specs.Reading.{read_expression, read_arguments, read_statements, read_statement, read_types, read_procedure, read_procedures}
-use Rattle.definitions.specs.Reading.{read_array, read_arrays, tables_at, read_rest, read_image, got}
+use Rattle.definitions.specs.Reading.{read_arrays, read_rest, read_image, got}
 use Rattle.definitions.specs.Faults.{least}
 use Rattle.definitions.specs.Sorts.{sort_in, mark_statement, sort_faults, argument_faults, statement_sort_faults, procedure_sort_faults, procedures_sort_faults}
 use Rattle.definitions.specs.Sorts.{image_sort_faults}
@@ -18,7 +18,7 @@ use Rattle.definitions.specs.Checking.{fault_of, without_fault, admitted}
 use Rattle.definitions.specs.Operators.{apply_binary, apply_unary}
 use Rattle.definitions.specs.Running.{emit, in_array, index_at, divided, shifted, operated, evaluate, evaluate_all, tick, passes, taken, received}
 use Rattle.definitions.specs.Running.{run_statement, frame, finish, run_procedure}
-use Rattle.definitions.specs.Requests.{ready, with_cells, ready_to_load, ready_to_serve, served, has_cell, fixed_array, load, poke}
+use Rattle.definitions.specs.Requests.{ready, with_cells, ready_to_load, ready_to_serve, served, has_cell, load, poke}
 use Rattle.definitions.specs.Requests.{Called, argument_values, ended, called_on, served_call, call, preview}
 use Rattle.definitions.specs.Host.{whole_words, load_bytes, poke_bytes, call_bytes, preview_bytes}
 use Rattle.statements.specs.Statements.{tree_of, Machine, Response, turn}
@@ -36,25 +36,17 @@ unfoldable tree : Image
 tree = tree_of (admitted true compiled_words)
 
 read : admitted true compiled_words ≡ got tree (length compiled_words)
-unfolding tree tree_of header_word array_word procedure_word type_word block_word statement_word expression_word raw_word place_of cell_count base_of read_expression read_arguments read_statements read_statement read_types read_procedure read_procedures read_array read_arrays tables_at read_rest read_image least sort_in mark_statement sort_faults argument_faults statement_sort_faults procedure_sort_faults procedures_sort_faults image_sort_faults secret_in rc_after is_constant constant_value bounded_sum bounded_index label_faults argument_label_faults statement_label_faults procedure_label_faults procedures_label_faults image_label_faults fault_of without_fault admitted flat_map
+unfolding tree tree_of header_word array_word procedure_word type_word block_word statement_word expression_word raw_word place_of cell_count base_of read_expression read_arguments read_statements read_statement read_types read_procedure read_procedures read_arrays read_rest read_image least sort_in mark_statement sort_faults argument_faults statement_sort_faults procedure_sort_faults procedures_sort_faults image_sort_faults secret_in rc_after is_constant constant_value bounded_sum bounded_index label_faults argument_label_faults statement_label_faults procedure_label_faults procedures_label_faults image_label_faults fault_of without_fault admitted flat_map
 read = refl
 
 -- its one array: secret, 16 cells
 arrays_of_lem : tree.arrays ≡ 0x20010010 ∷ []
-unfolding tree tree_of header_word array_word procedure_word type_word block_word statement_word expression_word raw_word place_of cell_count base_of read_expression read_arguments read_statements read_statement read_types read_procedure read_procedures read_array read_arrays tables_at read_rest read_image least sort_in mark_statement sort_faults argument_faults statement_sort_faults procedure_sort_faults procedures_sort_faults image_sort_faults secret_in rc_after is_constant constant_value bounded_sum bounded_index label_faults argument_label_faults statement_label_faults procedure_label_faults procedures_label_faults image_label_faults fault_of without_fault admitted flat_map
+unfolding tree tree_of header_word array_word procedure_word type_word block_word statement_word expression_word raw_word place_of cell_count base_of read_expression read_arguments read_statements read_statement read_types read_procedure read_procedures read_arrays read_rest read_image least sort_in mark_statement sort_faults argument_faults statement_sort_faults procedure_sort_faults procedures_sort_faults image_sort_faults secret_in rc_after is_constant constant_value bounded_sum bounded_index label_faults argument_label_faults statement_label_faults procedure_label_faults procedures_label_faults image_label_faults fault_of without_fault admitted flat_map
 arrays_of_lem = refl
 
 cells_of : cell_count tree.arrays ≡ 16
 unfolding cell_count
 cells_of = rw arrays_of_lem
-
--- its array is not fixed, so that a load puts zeros
-not_fixed : fixed_array tree 0 ≡ false
-not_fixed = rw arrays_of_lem
-
-starts_of : start_cells tree.arrays tree.tables ≡ replicate 16 0
-unfolding start_cells
-starts_of = rw arrays_of_lem
 
 has_cell_lem : (i : ℕ) → has_cell tree 0 i ≡ ltb i 16
 has_cell_lem i = rw arrays_of_lem
@@ -93,7 +85,7 @@ came_to n block = (Done (passed n 0 (before n) block) budget trace_length, block
 
 -- on sixteen cells of which nothing is known
 computed : (f : ℕ → ℕ) → call true compiled_words (listed f 0 16) procedure [] budget trace_length ≡ came_to (f 15) (listed f 0 16)
-unfolding listed passed trace indices header_word array_word procedure_word type_word block_word statement_word expression_word raw_word place_of cell_count base_of read_expression read_arguments read_statements read_statement read_types read_procedure read_procedures read_array read_arrays tables_at read_rest read_image least sort_in mark_statement sort_faults argument_faults statement_sort_faults procedure_sort_faults procedures_sort_faults image_sort_faults secret_in rc_after is_constant constant_value bounded_sum bounded_index label_faults argument_label_faults statement_label_faults procedure_label_faults procedures_label_faults image_label_faults fault_of without_fault admitted flat_map apply_binary apply_unary emit in_array index_at divided shifted operated evaluate evaluate_all tick passes taken received run_statement frame finish run_procedure argument_values ended called_on with_cells ready_to_load ready_to_serve served_call call
+unfolding listed passed trace indices header_word array_word procedure_word type_word block_word statement_word expression_word raw_word place_of cell_count base_of read_expression read_arguments read_statements read_statement read_types read_procedure read_procedures read_arrays read_rest read_image least sort_in mark_statement sort_faults argument_faults statement_sort_faults procedure_sort_faults procedures_sort_faults image_sort_faults secret_in rc_after is_constant constant_value bounded_sum bounded_index label_faults argument_label_faults statement_label_faults procedure_label_faults procedures_label_faults image_label_faults fault_of without_fault admitted flat_map apply_binary apply_unary emit in_array index_at divided shifted operated evaluate evaluate_all tick passes taken received run_statement frame finish run_procedure argument_values ended called_on with_cells ready_to_load ready_to_serve served_call call
 computed f = refl
 
 pub called : (block : List ℕ) → length block ≡ 16 → call true compiled_words block procedure [] budget trace_length
@@ -144,7 +136,7 @@ loaded m e =
     let cells : length (words_of m.cells) ≡ 16 = rw (length_words_of, e) in
     let few : length (words_of m.cells) ≤ 16 = omega arith in
     let all : lent m.cells (replicate 16 0) ≡ bytes_of (replicate 16 0) = over_all m.cells (replicate 16 0) e in
-    rw (whole, words, cells, loadable, cells_of, starts_of, drop_of_length-le (words_of m.cells) few, all)
+    rw (whole, words, cells, loadable, cells_of, drop_of_length-le (words_of m.cells) few, all)
 
 poked : (ws : List ℕ) (i v : ℕ) → length ws ≡ 16 → i < 16
     → turn (holding ws) (Statements.poke array i v) ≡ record { answer = Done 0 0 0; trace = []; after = holding (set ws i v) }
@@ -152,7 +144,7 @@ unfolding turn poke_bytes poke served
 poked ws i v e h =
     let long : length (bytes_of ws) ≡ 4 * length (set ws i v) = rw (length_bytes_of, length-set) in
     let z : 0 + i ≡ i = omega arith in
-    rw (whole, words, words_back ws, e, callable, has_cell_lem i, lt-ltb i 16 h, not_fixed, first_cell, z, over_all (bytes_of ws) (set ws i v) long)
+    rw (whole, words, words_back ws, e, callable, has_cell_lem i, lt-ltb i 16 h, first_cell, z, over_all (bytes_of ws) (set ws i v) long)
 
 -- cells that are poked behind those that have been, over zeros
 poked_all : (front cells : List ℕ) → length front + length cells ≡ 16

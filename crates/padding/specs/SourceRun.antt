@@ -6,7 +6,7 @@ use Rattle.definitions.specs.declared.Answer.TheVariants.{Done}
 use Rattle.definitions.specs.Bytes.{words_of, bytes_of, lent}
 use Rattle.definitions.specs.Image.{header_word, array_word, procedure_word, type_word, block_word, statement_word, expression_word, raw_word, place_of, cell_count, base_of, Image, procedure_at}
 use Rattle.definitions.specs.Reading.{read_expression, read_arguments, read_statements, read_statement, read_types, read_procedure, read_procedures}
-use Rattle.definitions.specs.Reading.{read_array, read_arrays, tables_at, read_rest, read_image, got}
+use Rattle.definitions.specs.Reading.{read_arrays, read_rest, read_image, got}
 use Rattle.definitions.specs.Faults.{least}
 use Rattle.definitions.specs.Sorts.{sort_in, mark_statement, sort_faults, argument_faults, statement_sort_faults, procedure_sort_faults, procedures_sort_faults}
 use Rattle.definitions.specs.Sorts.{image_sort_faults}
@@ -31,7 +31,7 @@ unfoldable tree : Image
 tree = tree_of (admitted true source_words)
 
 read : admitted (whole_words source) (words_of source) ≡ got tree 50
-unfolding tree tree_of source_words bytes_of words_of header_word array_word procedure_word type_word block_word statement_word expression_word raw_word place_of cell_count base_of read_expression read_arguments read_statements read_statement read_types read_procedure read_procedures read_array read_arrays tables_at read_rest read_image least sort_in mark_statement sort_faults argument_faults statement_sort_faults procedure_sort_faults procedures_sort_faults image_sort_faults secret_in rc_after is_constant constant_value bounded_sum bounded_index label_faults argument_label_faults statement_label_faults procedure_label_faults procedures_label_faults image_label_faults fault_of without_fault admitted flat_map
+unfolding tree tree_of source_words bytes_of words_of header_word array_word procedure_word type_word block_word statement_word expression_word raw_word place_of cell_count base_of read_expression read_arguments read_statements read_statement read_types read_procedure read_procedures read_arrays read_rest read_image least sort_in mark_statement sort_faults argument_faults statement_sort_faults procedure_sort_faults procedures_sort_faults image_sort_faults secret_in rc_after is_constant constant_value bounded_sum bounded_index label_faults argument_label_faults statement_label_faults procedure_label_faults procedures_label_faults image_label_faults fault_of without_fault admitted flat_map
 read = refl
 
 -- what the compiler wrote is the image, all of it
@@ -44,7 +44,7 @@ same = rw (sym target) (same_meaning source (replicate (4 * image_length) 0) 60 
 
 -- no argument, and no guard
 no_guard : words_of [] ≡ with_guard (procedure_at tree.procedures procedure) (words_of [])
-unfolding tree tree_of source_words words_of header_word array_word procedure_word type_word block_word statement_word expression_word raw_word place_of cell_count base_of read_expression read_arguments read_statements read_statement read_types read_procedure read_procedures read_array read_arrays tables_at read_rest read_image least sort_in mark_statement sort_faults argument_faults statement_sort_faults procedure_sort_faults procedures_sort_faults image_sort_faults secret_in rc_after is_constant constant_value bounded_sum bounded_index label_faults argument_label_faults statement_label_faults procedure_label_faults procedures_label_faults image_label_faults fault_of without_fault admitted flat_map
+unfolding tree tree_of source_words words_of header_word array_word procedure_word type_word block_word statement_word expression_word raw_word place_of cell_count base_of read_expression read_arguments read_statements read_statement read_types read_procedure read_procedures read_arrays read_rest read_image least sort_in mark_statement sort_faults argument_faults statement_sort_faults procedure_sort_faults procedures_sort_faults image_sort_faults secret_in rc_after is_constant constant_value bounded_sum bounded_index label_faults argument_label_faults statement_label_faults procedure_label_faults procedures_label_faults image_label_faults fault_of without_fault admitted flat_map
 no_guard = refl
 
 pub source_alike : (block : List ℕ) (steps : ℕ) (room : List ℕ) → length block ≡ 16
@@ -64,5 +64,5 @@ source_alike block steps room e h =
 -- Its branch at word 15 shows whether the last cell is 0.
 pub source_shows : (call_bytes source (bytes_of (replicate 16 0)) procedure [] 100 (replicate 400 0)).2
     ≡ (call_bytes source (bytes_of (replicate 16 1)) procedure [] 100 (replicate 400 0)).2 → ⊥
-unfolding source_words bytes_of words_of header_word array_word procedure_word type_word block_word statement_word expression_word raw_word place_of cell_count base_of read_expression read_arguments read_statements read_statement read_types read_procedure read_procedures read_array read_arrays tables_at read_rest read_image least sort_in mark_statement sort_faults argument_faults statement_sort_faults procedure_sort_faults procedures_sort_faults image_sort_faults secret_in rc_after is_constant constant_value bounded_sum bounded_index label_faults argument_label_faults statement_label_faults procedure_label_faults procedures_label_faults image_label_faults fault_of without_fault admitted flat_map apply_binary apply_unary emit in_array index_at divided shifted operated evaluate evaluate_all tick passes taken received run_statement frame finish run_procedure argument_values ended called_on with_cells ready_to_load ready_to_serve served_call call call_bytes lent
+unfolding source_words bytes_of words_of header_word array_word procedure_word type_word block_word statement_word expression_word raw_word place_of cell_count base_of read_expression read_arguments read_statements read_statement read_types read_procedure read_procedures read_arrays read_rest read_image least sort_in mark_statement sort_faults argument_faults statement_sort_faults procedure_sort_faults procedures_sort_faults image_sort_faults secret_in rc_after is_constant constant_value bounded_sum bounded_index label_faults argument_label_faults statement_label_faults procedure_label_faults procedures_label_faults image_label_faults fault_of without_fault admitted flat_map apply_binary apply_unary emit in_array index_at divided shifted operated evaluate evaluate_all tick passes taken received run_statement frame finish run_procedure argument_values ended called_on with_cells ready_to_load ready_to_serve served_call call call_bytes lent
 source_shows e = let h : ◌≡◌ {A = ℕ} 1 0 = ap (λ (t : List ℕ). get_or t 15 0) e in absurd (omega arith)

@@ -22,7 +22,7 @@ use Rattle.preservation.specs.Marks.{mark_length_block, mark_marks_block}
 -- a procedure that reading gave and no rule refuses, whose compiled form has at most 246 locals
 pub record Accepted (I : Image) (P : Procedure) : Type 0 where
   pub well : well_read_procedure I.procedures P ≡ true
-  pub sorts : procedure_sort_faults I.procedures I.arrays P ≡ []
+  pub sorts : procedure_sort_faults I.procedures (length I.arrays) P ≡ []
   pub labels : procedure_label_faults I P ≡ []
   pub fits : leb (length (compiled_types I.procedures I.arrays P) - (P.parameters + guards P)) 246 ≡ true
 
@@ -152,7 +152,7 @@ module _ {I : Image} {P : Procedure} (h : Accepted I P) where
           sorts = h.sorts;
           labels = h.labels;
           counts = search conjuncts;
-          marked = mark_marks_block I.procedures P.parameters P.types P.result I.arrays (mark_block P.body (replicate 256 ordinary)) P.body (replicate 256 ordinary) (mark_block P.body (replicate 256 ordinary))
+          marked = mark_marks_block I.procedures P.parameters P.types P.result (length I.arrays) (mark_block P.body (replicate 256 ordinary)) P.body (replicate 256 ordinary) (mark_block P.body (replicate 256 ordinary))
               (let r = body_allocation.few in let e = length-replicate 256 ordinary in omega arith) (λ x q. q) h.sorts;
         };
         allocation = body_allocation;

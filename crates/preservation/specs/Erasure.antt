@@ -39,7 +39,7 @@ erased_procedures [] = []
 erased_procedures (p ∷ ps) = erased_procedure p ∷ erased_procedures ps
 
 unfoldable pub erased_image : Image → Image
-erased_image image = record { form = image.form; arrays = image.arrays; tables = image.tables; procedures = erased_procedures image.procedures }
+erased_image image = record { form = image.form; arrays = image.arrays; procedures = erased_procedures image.procedures }
 
 pub erased_at : (ps : List Procedure) (n : ℕ) → procedure_at (erased_procedures ps) n ≡ erased_procedure (procedure_at ps n)
 unfolding erased_procedures erased_procedure erased_block

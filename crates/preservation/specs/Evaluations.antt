@@ -199,9 +199,9 @@ module _ {T U : Type 0} (C : Trace T) (D : Trace U) where
       go false true = sim_bind (both (emitted C 9 p w t) (emitted D 9 q w u)) λ a b x y _. same refl
       go false false = same refl
 
-module _ {T U : Type 0} (C : Trace T) (D : Trace U) (types arrays marks : List ℕ) (first : ℕ) (us vs cs : List ℕ) (h : Agree types marks first us vs) where
+module _ {T U : Type 0} (C : Trace T) (D : Trace U) (types arrays marks : List ℕ) (first size : ℕ) (us vs cs : List ℕ) (h : Agree types marks first us vs) where
   -- an expression and its compiled form end alike
-  pub sim_value : (e : Expression) → sort_faults types arrays marks e ≡ [] → (t : T) (u : U)
+  pub sim_value : (e : Expression) → sort_faults types size marks e ≡ [] → (t : T) (u : U)
       → SimValue (λ i j. i ≡ j) (evaluate C arrays e us cs t) (evaluate D arrays (moved first e) vs cs u)
   unfolding sort_faults moved evaluate
   sim_value (constant p v) f t u = same refl
@@ -222,7 +222,7 @@ module _ {T U : Type 0} (C : Trace T) (D : Trace U) (types arrays marks : List �
       sim_bind (sim_value g (search empties) x' y') λ w w' x'' y'' q''. rw (q, q', q'') (same refl)
 
   -- a for's bound, which has its own value where it is a constant
-  pub sim_bound : (e : Expression) → sort_faults types arrays marks e ≡ [] → (t : T) (u : U)
+  pub sim_bound : (e : Expression) → sort_faults types size marks e ≡ [] → (t : T) (u : U)
       → SimValue (λ i j. (i ≡ j) × (is_constant e ≡ true → j ≡ constant_value e)) (evaluate C arrays e us cs t) (evaluate D arrays (moved first e) vs cs u)
   unfolding is_constant constant_value moved evaluate
   sim_bound (constant p v) f t u = same (refl, λ _. refl)
@@ -234,7 +234,7 @@ module _ {T U : Type 0} (C : Trace T) (D : Trace U) (types arrays marks : List �
   sim_bound (select p c e g) f t u = sim_value_map (λ i j q. (q, λ c. absurd (false≢true c))) (sim_value (select p c e g) f t u)
 
   -- so do arguments, before others of the compiled form that have known values
-  pub sim_values : (callee : List ℕ) (k : ℕ) (es : List Expression) → argument_faults types arrays marks callee k es ≡ []
+  pub sim_values : (callee : List ℕ) (k : ℕ) (es : List Expression) → argument_faults types size marks callee k es ≡ []
       → (rest : List Expression) (xs : List ℕ) → ((u : U) → evaluate_all D arrays rest vs cs u ≡ value xs u) → (t : T) (u : U)
       → SimValue (λ a b. (b ≡ a ++ xs) × (length a ≡ length es)) (evaluate_all C arrays es us cs t) (evaluate_all D arrays (moved_all first es ++ rest) vs cs u)
   unfolding argument_faults moved_all evaluate_all

@@ -38,7 +38,7 @@ mutual
   mark_stays_block done m x h = h
   mark_stays_block (sequence l s b) m x h = mark_stays_block b (mark_statement s m) x (mark_stays s m x h)
 
-module _ (ps : List Procedure) (parameters : ℕ) (types : List ℕ) (result : ℕ) (arrays last : List ℕ) where
+module _ (ps : List Procedure) (parameters : ℕ) (types : List ℕ) (result arrays : ℕ) (last : List ℕ) where
   mutual
     unfolding mark_statement mark_block marked_statement marked_block statement_sort_faults block_sort_faults
 

@@ -35,7 +35,7 @@ module _ (I : Image) where
   procedure_well (q ∷ qs) zero i h = search conjuncts
   procedure_well (q ∷ qs) (suc n) i h = procedure_well qs n (omega arith) (search conjuncts)
 
-  pub procedure_sorts : (qs : List Procedure) (n : ℕ) → n < length qs → procedures_sort_faults I.procedures I.arrays qs ≡ [] → procedure_sort_faults I.procedures I.arrays (procedure_at qs n) ≡ []
+  pub procedure_sorts : (qs : List Procedure) (n : ℕ) → n < length qs → procedures_sort_faults I.procedures (length I.arrays) qs ≡ [] → procedure_sort_faults I.procedures (length I.arrays) (procedure_at qs n) ≡ []
   unfolding procedures_sort_faults flat_map
   procedure_sorts [] n i h = absurd (omega arith)
   procedure_sorts (q ∷ qs) zero i h = search empties

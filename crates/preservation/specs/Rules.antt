@@ -61,20 +61,20 @@ mutual
 
 -- a statement that keeps all rules where it stands
 pub record StatementRules (L : Layout) (marks : List ℕ) (bounds : List ConstantLoop) (pc rc : Bool) (l : ℕ) (s : Statement) : Type 0 where
-  pub sorts : statement_sort_faults L.procedures L.parameters L.types L.result L.arrays marks l s ≡ []
+  pub sorts : statement_sort_faults L.procedures L.parameters L.types L.result (length L.arrays) marks l s ≡ []
   pub labels : statement_label_faults L.form L.procedures L.arrays L.types L.result bounds pc rc l s ≡ []
   pub counts : counted_statement L.procedures s ≡ true
   pub marked : marked_statement marks s ≡ true
 
 pub record BlockRules (L : Layout) (marks : List ℕ) (bounds : List ConstantLoop) (pc rc : Bool) (b : Block) : Type 0 where
-  pub sorts : block_sort_faults L.procedures L.parameters L.types L.result L.arrays marks b ≡ []
+  pub sorts : block_sort_faults L.procedures L.parameters L.types L.result (length L.arrays) marks b ≡ []
   pub labels : block_label_faults L.form L.procedures L.arrays L.types L.result bounds pc rc b ≡ []
   pub counts : counted_block L.procedures b ≡ true
   pub marked : marked_block marks b ≡ true
 
 -- an expression that keeps all rules in a context that is secret or not
 pub record ExpressionRules (L : Layout) (marks : List ℕ) (bounds : List ConstantLoop) (context : Bool) (e : Expression) : Type 0 where
-  pub sorts : sort_faults L.types L.arrays marks e ≡ []
+  pub sorts : sort_faults L.types (length L.arrays) marks e ≡ []
   pub labels : label_faults L.types L.arrays bounds context e ≡ []
 
 module _ {L : Layout} {marks : List ℕ} {bounds : List ConstantLoop} {pc rc : Bool} {l : ℕ} where
@@ -177,7 +177,7 @@ module _ {L : Layout} {marks : List ℕ} {bounds : List ConstantLoop} {pc rc : B
       )
 
   pub call_sorts : {f x : ℕ} {es : List Expression} → StatementRules L marks bounds pc rc l (call f x es)
-      → argument_faults L.types L.arrays marks (procedure_at L.procedures f).types 0 es ≡ []
+      → argument_faults L.types (length L.arrays) marks (procedure_at L.procedures f).types 0 es ≡ []
   unfolding statement_sort_faults
   call_sorts h = let s = h.sorts in search empties
 

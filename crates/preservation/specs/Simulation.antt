@@ -83,7 +83,7 @@ module _ (L : Layout) {T U : Type 0} (C : Trace T) (D : Trace U) (budget budget'
 
   live_value : {S : Scope} {context : Bool} {val : ℕ → ℕ} {us vs : List ℕ} {e : Expression} → ExpressionRules L S.marks S.bounds context e → Live L S val us vs → (cs : List ℕ) (t : T) (u : U)
       → SimValue (λ a b. a ≡ b) (evaluate C L.arrays e us cs t) (evaluate D L.arrays (operand L e) vs cs u)
-  live_value {S = S} {us = us} {vs} {e} g m cs t u = sim_value C D L.types L.arrays S.marks L.first us vs cs m.vars e g.sorts t u
+  live_value {S = S} {us = us} {vs} {e} g m cs t u = sim_value C D L.types L.arrays S.marks L.first (length L.arrays) us vs cs m.vars e g.sorts t u
 
   any_value : (x : ℕ) (vs cs : List ℕ) (u : U) → SafeValue (λ (_ : ℕ). Unit {0}) (evaluate D L.arrays (variable 0 x) vs cs u)
   unfolding evaluate
@@ -160,7 +160,7 @@ module _ (L : Layout) {T U : Type 0} (C : Trace T) (D : Trace U) (budget budget'
   unfolding run_statement
   simulate_call_public f x es l S pc arm rc k h val z t y u us vs cs m rest xs q c =
       sim_one D budget' L.arrays K (run_statement C budget L.arrays J l (call f x es) z t us cs) (call f (slot L x) (operands L es ++ rest)) y u vs cs λ w.
-      sim_within z w (sim_values C D L.types L.arrays S.marks L.first us vs cs m.vars (procedure_at L.procedures f).types 0 es (call_sorts h.rules) rest xs q t u) λ a b t₁ u₁ r.
+      sim_within z w (sim_values C D L.types L.arrays S.marks L.first (length L.arrays) us vs cs m.vars (procedure_at L.procedures f).types 0 es (call_sorts h.rules) rest xs q t u) λ a b t₁ u₁ r.
       sim_within z w (both (emitted C 7 l f t₁) (emitted D 7 0 f u₁)) λ _ _ t₂ u₂ _.
       rw r.0 (sim_go (c a (r.1 ∙ call_count h.rules) z t₂ w u₂) λ g g' z₁ y₁ t₃ u₃ e. got g g' z₁ y₁ t₃ u₃ e)
     where
@@ -176,7 +176,7 @@ module _ (L : Layout) {T U : Type 0} (C : Trace T) (D : Trace U) (budget budget'
   unfolding run_statement run_block
   simulate_call_secret f x es l S pc arm rc k h val o s j free room z t y u us vs cs m =
       tick_right budget' 0 y u _ _ λ w. sim_then
-      (sim_within z w (sim_values C D L.types L.arrays S.marks L.first us vs cs m.vars (procedure_at L.procedures f).types 0 es (call_sorts h.rules) (act_at L pc arm rc ∷ []) (n ∷ []) last t u) λ a b t₁ u₁ r.
+      (sim_within z w (sim_values C D L.types L.arrays S.marks L.first (length L.arrays) us vs cs m.vars (procedure_at L.procedures f).types 0 es (call_sorts h.rules) (act_at L pc arm rc ∷ []) (n ∷ []) last t u) λ a b t₁ u₁ r.
       sim_within z w (both (emitted C 7 l f t₁) (emitted D 7 0 f u₁)) λ _ _ t₂ u₂ _.
       rw r.0 (sim_go (ks.guard f a n (call_guarded h.rules s) nonzero (r.1 ∙ call_count h.rules) z t₂ w u₂ cs) λ g g' z₁ y₁ t₃ u₃ e. got g g' z₁ y₁ t₃ u₃ e))
       λ p p' z₁ t₁ y₁ u₁ e. select_result p p' z₁ t₁ y₁ u₁ e
@@ -398,8 +398,8 @@ module _ (L : Layout) {T U : Type 0} (C : Trace T) (D : Trace U) (budget budget'
   simulate_loop x f g b mb l S pc arm rc k h val o z t y u us vs cs m =
       sim_one D budget' L.arrays K (run_statement C budget L.arrays J l (loop x f g b) z t us cs)
       (loop (slot L x) (operand L f) (operand L g) (codes L b pc arm (rc_after_block_at L pc rc b) k)) y u vs cs λ w.
-      sim_within z w (sim_bound C D L.types L.arrays S.marks L.first us vs cs m.vars f (loop_from h.rules).sorts t u) λ f₁ f₂ t₁ u₁ p.
-      sim_within z w (sim_bound C D L.types L.arrays S.marks L.first us vs cs m.vars g (loop_to h.rules).sorts t₁ u₁) λ g₁ g₂ t₂ u₂ q.
+      sim_within z w (sim_bound C D L.types L.arrays S.marks L.first (length L.arrays) us vs cs m.vars f (loop_from h.rules).sorts t u) λ f₁ f₂ t₁ u₁ p.
+      sim_within z w (sim_bound C D L.types L.arrays S.marks L.first (length L.arrays) us vs cs m.vars g (loop_to h.rules).sorts t₁ u₁) λ g₁ g₂ t₂ u₂ q.
       sim_within z w (both (emitted C 2 l f₁ t₂) (emitted D 2 0 f₂ u₂)) λ _ _ t₃ u₃ _.
       sim_within z w (both (emitted C 3 l g₁ t₃) (emitted D 3 0 g₂ u₃)) λ _ _ t₄ u₄ _.
       rw (p.0, q.0) (simulate_passes x f g b mb l S pc arm rc k h val o f₂ g₂ p.1 q.1 (g₂ - f₂) f₂ (omega arith) refl z t₄ w u₄ us vs cs m)

@@ -2,7 +2,7 @@
 -- (crates/definitions/specs), what stands in crates/statements/specs, and documents 01 and 02 beside them; the proofs stand elsewhere, and are cited at
 -- the end of each section. Every function named here is a request of the definitions on lent bytes (Host). All of them are total, so each gives an
 -- answer; `Bytes` says that what is lent are bytes. Assumes nothing.
-use Rattle.std.specs.Prelude.{ℕ, suc, ◌+◌, ◌*◌, ◌-◌, ◌%◌, ◌≤◌, ◌<◌, true, List, [], ◌∷◌, ◌++◌, ◌⊎◌, ◌≡◌, length, drop}
+use Rattle.std.specs.Prelude.{ℕ, suc, ◌+◌, ◌*◌, ◌-◌, ◌%◌, ◌≤◌, ◌<◌, true, List, [], ◌∷◌, ◌++◌, ◌⊎◌, ◌≡◌, length, take, drop}
 use Rattle.definitions.specs.declared.Fault.{Fault}
 use Rattle.definitions.specs.declared.Answer.{Answer}
 use Rattle.definitions.specs.declared.Answer.TheVariants.{Done, Stopped, Refused}
@@ -26,9 +26,9 @@ use Rattle.definitions.specs.Host.{whole_words, check_bytes, compile_bytes, load
 use Rattle.definitions.specs.Comparing.{Entry, trace_entries, probe_entries}
 use Rattle.definitions.specs.Host.{call_bytes, preview_bytes, bound_bytes, describe_bytes, compare_bytes}
 use Rattle.statements.specs.Statements.{Iff, Exactly, AdmissibleBytes, Among, RefusesBytes, NotLoaded, Loadable, NotReady, NoCell}
-use Rattle.statements.specs.Statements.{WithCell, NotPoked, Pokable, NotCalled, Callable, cleared, stored, ResultOrStop, steps_of, recorded_count}
+use Rattle.statements.specs.Statements.{WithCell, NotCalled, Callable, cleared, stored, ResultOrStop, steps_of, recorded_count}
 use Rattle.statements.specs.Statements.{recorded_in, SameOrSpent, SameOrFilled, BeyondArray, DivisorZero, NotWritten}
-use Rattle.statements.specs.Statements.{Compilable, wrote, SameMeaning, Machine, empty, Request, turn, responses, AlikeLists, SameTurns}
+use Rattle.statements.specs.Statements.{Compilable, SameMeaning, Machine, empty, Request, turn, responses, AlikeLists, SameTurns}
 use Rattle.statements.specs.Statements.{answer_in, checked_in, compiled_in, compared_in}
 use Rattle.statements.specs.Comparisons.{TraceShows, ProbeRecords, PartAfter}
 use Rattle.statements.specs.StepBounds.{LongestPath, step_bound, NotBounded, Bounded, Straight}
@@ -36,12 +36,10 @@ use Rattle.tinesage.specs.Contracts.{Checks, Compiles, Describes, Loads, Clears,
 use Rattle.statements.specs.Limits.{FitsImage}
 use Rattle.statements.specs.FormerLimits.{read_image_by, former_read_image, From, Kept, WithinLimits, SameAnswers}
 use Rattle.statements.specs.FormerAnswers.{AnswersAs}
-use Rattle.statements.specs.FixedTables.{Wish5}
 use Rattle.statements.specs.FormerIndices.{former_bounded_index, todays_rule, admitted_by, formerly_admitted, upper_bounds, Sum, NamesSum}
 use Rattle.statements.specs.FormerNumbering.{former_compile_bytes}
 use Rattle.statements.specs.FormerTraces.{call_bytes_by, former_call_bytes, no_shift, OnlyEntriesAdded}
 use Rattle.laws.specs.FormerLevels.{by_image, limits_keep_answers, one_level_more, same_answers}
-use Rattle.laws.specs.WordTests.{fixed_added}
 use Rattle.laws.specs.Previews.{preview_is_call_on_a_copy, preview_turn}
 use Rattle.laws.specs.Comparisons.{kept_exactly, recorded_exactly, agree_exactly, parted_there}
 use Rattle.readback.specs.Whole.{image_compiled_fits}
@@ -52,7 +50,7 @@ use Rattle.results.specs.IndicesAdded
 use Rattle.results.specs.StillCompiles.{still_compiles, refused_before, locals_always_fit, fifteen_by_length}
 use Rattle.results.specs.CountsAdded.{count_recorded, count_stopped, by_operators, only_entries_added, no_shift_same}
 use Rattle.results.specs.Accepted.{accepted_exactly, refused_exactly, reading_number, sort_number, label_number}
-use Rattle.results.specs.Exactly.{loaded_or_not, ready_or_not, cell_or_not, poked_or_not, called_or_not, load_refused_exactly, load_is_done}
+use Rattle.results.specs.Exactly.{loaded_or_not, ready_or_not, cell_or_not, called_or_not, load_refused_exactly, load_is_done}
 use Rattle.results.specs.Exactly.{clear_refused_exactly, clear_is_done, poke_refused_exactly, poke_is_done}
 use Rattle.results.specs.Exactly.{peek_refused_exactly, peek_is_done, call_refused_exactly, call_ends, load_unchanged}
 use Rattle.results.specs.Exactly.{clear_unchanged, poke_unchanged, peek_unchanged, call_unchanged, stop_leaves, done_leaves}
@@ -60,8 +58,6 @@ use Rattle.results.specs.Exactly.{preview_refused_exactly, preview_ends, preview
 use Rattle.results.specs.Written.{written_or_not, compile_refused_exactly, compile_is_written, compile_unchanged}
 use Rattle.results.specs.StoppedExactly.{two_budgets, two_traces, steps_within, words_within, budget_reached, trace_filled}
 use Rattle.results.specs.StoppedExactly.{index_stops, divisor_stops, whole_entries}
-use Rattle.results.specs.FixedTables.{tables_follow, cleared_puts, load_puts, clear_puts, calls_read_lent, fixed_kept, fixed_hold, pokes_refused}
-use Rattle.results.specs.FixedStores.{stores_refused}
 use Rattle.results.specs.PreviewedTraces.{trace_enough}
 use Rattle.results.specs.LongestPaths.{longest_path}
 use Rattle.results.specs.StepBounds.{bounded_or_not, bound_refused_exactly, bound_is_done, bound_leaves, from_image_alone, bound_holds, bound_enough, bound_exact}
@@ -119,24 +115,24 @@ pub record Unchanged (image cells : List ℕ) : Type 0 where
   pub by_compile : (out : List ℕ) → Bytes out → (k p : ℕ) → (compile_bytes image out).0 ≡ CompileRefused k p → (compile_bytes image out).1 ≡ out
 
 pub record Property1 : Type 0 where
-  -- The checker accepts exactly the bytes that are whole words and spell a tree which keeps the limits and has no fault of 6 to 8 and 30, and none of 9 to 13.
+  -- The checker accepts exactly the bytes that are whole words and spell a tree which keeps the limits and has no fault of 6 to 8 and none of 9 to 13.
   pub accepted_exactly : (image : List ℕ) → Iff (check_bytes image ≡ Accepted) ((tree : Image) × AdmissibleBytes image tree)
-  -- Otherwise number and place: reading's, or the lowest fault of 6 to 8 and 30, or, where there is none of those, the lowest of 9 to 13.
+  -- Otherwise number and place: reading's, or the lowest fault of 6 to 8, or, where there is none of those, the lowest of 9 to 13.
   pub refused_exactly : (image : List ℕ) (k p : ℕ) → Iff (check_bytes image ≡ CheckRefused k p) (RefusesBytes image k p)
   pub reading_numbers : (image : List ℕ) (k p : ℕ) → read_image (whole_words image) (words_of image) ≡ refused k p → (1 ≤ k) × (k ≤ 5)
-  pub sort_numbers : (tree : Image) (f : Fault) → Among f (image_sort_faults tree) → ((6 ≤ f.number) × (f.number ≤ 8)) ⊎ (f.number ≡ 30)
+  pub sort_numbers : (tree : Image) (f : Fault) → Among f (image_sort_faults tree) → (6 ≤ f.number) × (f.number ≤ 8)
   pub label_numbers : (tree : Image) (f : Fault) → Among f (image_label_faults tree) → (9 ≤ f.number) × (f.number ≤ 13)
-  -- "Load sets cells to 0": the image's own, but for fixed ones, which hold their table words (document 02, wish 5); spare words are as before.
+  -- "Load sets cells to 0": the image's own; spare words are as before.
   pub loaded_exactly : (image cells : List ℕ) → Bytes cells
       → Exactly Refused (load_bytes image cells).0 (NotLoaded image cells) (Loadable image cells)
-      (λ tree. load_bytes image cells ≡ (Done 0 0 0, cleared tree cells))
+      (λ tree. load_bytes image cells ≡ (Done 0 0 0, cleared (cell_count tree.arrays) cells))
   -- "Clear zeroes cells."
   pub cleared_exactly : (image cells : List ℕ) → Bytes cells
       → Exactly Refused (clear_bytes image cells).0 (NotReady image cells) (Loadable image cells)
-      (λ tree. clear_bytes image cells ≡ (Done 0 0 0, cleared tree cells))
-  -- a poke sets the cell, unless its array is fixed, a peek answers it: "the cells, arrays in order"
+      (λ tree. clear_bytes image cells ≡ (Done 0 0 0, cleared (cell_count tree.arrays) cells))
+  -- a poke sets the cell, a peek answers it: "the cells, arrays in order"
   pub poked_exactly : (image cells : List ℕ) → Bytes cells → (a i v : ℕ)
-      → Exactly Refused (poke_bytes image cells a i v).0 (NotPoked image cells a i) (Pokable image cells a i)
+      → Exactly Refused (poke_bytes image cells a i v).0 (NoCell image cells a i) (WithCell image cells a i)
       (λ tree. poke_bytes image cells a i v ≡ (Done 0 0 0, stored (base_of tree.arrays a + i) v cells))
   pub peeked_exactly : (image cells : List ℕ) → Bytes cells → (a i : ℕ)
       → Exactly Refused (peek_bytes image cells a i).0 (NoCell image cells a i) (WithCell image cells a i)
@@ -168,7 +164,7 @@ property_1 =
           record {
             refused_where = poke_refused_exactly image cells b a i v;
             done_where = λ tree w. poke_is_done image cells b a i tree w v;
-            no_third = poked_or_not image cells a i;
+            no_third = cell_or_not image cells a i;
           };
       peeked_exactly = λ image cells b a i.
           record {
@@ -216,6 +212,10 @@ property_1 =
 -- ======== Property 2
 -- The demand: a compiled image loads and ends as its source ends.
 
+-- what the compiler wrote, where it answers that it wrote n words: the first of its output
+abbrev pub wrote : List ℕ → List ℕ → ℕ → List ℕ
+wrote image out n = take (4 * n) (compile_bytes image out).1
+
 pub record Property2 : Type 0 where
   -- The compiler writes exactly where the image is accepted, in form 0, its result within form 1's limits and the slice long enough; else the checker's
   -- refusal, 14, 15 or 16, in this order. The words written are those of the compiled tree. "Output words past the result stay unchanged."
@@ -224,14 +224,13 @@ pub record Property2 : Type 0 where
       (λ tree. compile_bytes image out ≡ (Written (length (image_words (compiled_image tree))), lent out (image_words (compiled_image tree))))
   -- what it wrote is accepted
   pub compiled_accepted : (image out : List ℕ) (n : ℕ) → (compile_bytes image out).0 ≡ Written n → check_bytes (wrote image out n) ≡ Accepted
-  -- it is in form 1, over the arrays of its source, and carries the same tables
+  -- it is in form 1, over the arrays of its source
   pub compiled_form : (image out : List ℕ) (n : ℕ) → (compile_bytes image out).0 ≡ Written n → (tree : Image) → AdmissibleBytes image tree
       → (target : Image) × AdmissibleBytes (wrote image out n) target × (target.form ≡ 1) × (target.arrays ≡ tree.arrays)
-      × (target.tables ≡ tree.tables)
-  -- it loads over the cells of its source, which then hold what loading the source puts there
+  -- it loads over the cells of its source, all of them 0 then
   pub compiled_loads : (image out : List ℕ) (n : ℕ) → (compile_bytes image out).0 ≡ Written n → (tree : Image) → AdmissibleBytes image tree
       → (cells : List ℕ) → Bytes cells → 4 * cell_count tree.arrays ≤ length cells
-      → load_bytes (wrote image out n) cells ≡ (Done 0 0 0, cleared tree cells)
+      → load_bytes (wrote image out n) cells ≡ (Done 0 0 0, cleared (cell_count tree.arrays) cells)
   -- and every call and preview on it ends as that on its source, every other request having the same answer and leaving the same cells
   pub compiled_ends : (image out : List ℕ) (n : ℕ) → (compile_bytes image out).0 ≡ Written n → (tree : Image) → AdmissibleBytes image tree
       → SameMeaning image tree (wrote image out n)
@@ -378,30 +377,6 @@ wish_4 =
       by_operators = by_operators;
       only_entries_added = only_entries_added;
       no_shift_same = λ image none cells f arguments budget trace. no_shift_same image cells f arguments budget trace none;
-    }
-
--- ======== Document 02, wish 5
--- "An array word may have 131072 added to its payload: its cells are then fixed, its label must be public, else 2, and as many raw words as its length
--- follow at once. Load and clear put them there. Calls read the cells as lent, and no call or poke changes fixed ones: where each request lends the cells
--- as the one before left them, they hold those words from the load on. Equality between author's and compiled runs is for images with tables as well.
--- Turned away: 30, a store [statement] or a poke into a fixed array; for a store it stands after 8 in its group, for a poke after 17." The clauses stand in
--- statements/specs/FixedTables.antt. Which of an image's faults is answered, 30 among them, is property 1 (`refused_exactly`); that compiled runs are
--- compared with those of the source is property 2: both speak of every image.
-
-pub wish_5 : Wish5
-wish_5 =
-    record {
-      fixed_added = fixed_added;
-      tables_follow = tables_follow;
-      load_puts = load_puts;
-      clear_puts = clear_puts;
-      calls_read_lent = calls_read_lent;
-      fixed_kept = fixed_kept;
-      fixed_hold = fixed_hold;
-      compiled_puts = λ image out n e cells b tree u.
-          rw (target_loads image out n e tree u.admissible cells b u.enough) (cleared_puts image cells tree u);
-      stores_refused = stores_refused;
-      pokes_refused = pokes_refused;
     }
 
 -- ======== Document 02, wish 7

@@ -58,7 +58,7 @@ same_procedures (like_next {p} {q} l ls) = rw (same_procedure p q l, same_proced
 
 pub same_image : (i j : Image) → LikeImage i j → erased_image i ≡ erased_image j
 unfolding erased_image
-same_image i j l = rw (l.forms, l.arrays, l.tables, same_procedures l.procedures)
+same_image i j l = rw (l.forms, l.arrays, same_procedures l.procedures)
 
 -- ---- What reading gave has one value per parameter at each call
 

@@ -1,5 +1,5 @@
--- Property 2: what the compiler wrote, beside its source, for a host that lends bytes. It is accepted, in form 1 and over the same arrays and tables; it loads
--- over the same cells, which then hold what the source puts there; and it ends as its source ends. Assumes nothing.
+-- Property 2: what the compiler wrote, beside its source, for a host that lends bytes. It is accepted, in form 1 and over the same arrays; it loads
+-- over the same cells, all of them 0 then; and it ends as its source ends. Assumes nothing.
 use Rattle.std.specs.Prelude.{ℕ, ◌*◌, ◌%◌, ◌≤◌, ◌≡◌, refl, eqb, length, drop}
 use Rattle.std.proofs.Math.Bool.{true}
 use mathlib.Core.List.{List, [], ◌∷◌, ◌++◌, append_assoc}
@@ -99,15 +99,10 @@ module _ (image out : List ℕ) (n : ℕ) (e : (compile_bytes image out).0 ≡ W
     guard : (f : ℕ) (ws : List ℕ) → with_guard (procedure_at tree.procedures f) ws ≡ with_guard (procedure_at w.source.procedures f) ws
     guard f ws = ap (λ (m : ℕ). ws ++ pick (eqb m 1) (1 ∷ []) []) (like_at like.procedures f).modes
 
-    pub target_tree : (t : Image) × AdmissibleBytes target t × (t.form ≡ 1) × (t.arrays ≡ tree.arrays) × (t.tables ≡ tree.tables)
+    pub target_tree : (t : Image) × AdmissibleBytes target t × (t.form ≡ 1) × (t.arrays ≡ tree.arrays)
     target_tree =
-        let read = admit true code back.tree (length code) back.reading back.faultless in (
-          back.tree,
-          rw (whole, spelled) (admitted_admissible true code back.tree (length code) read),
-          back.in_form,
-          back.same_arrays ∙ sym like.arrays,
-          back.same_tables ∙ sym like.tables,
-        )
+        let read = admit true code back.tree (length code) back.reading back.faultless in
+        (back.tree, rw (whole, spelled) (admitted_admissible true code back.tree (length code) read), back.in_form, back.same_arrays ∙ sym like.arrays)
 
     same_calls_in_bytes : (cells : List ℕ) (f : ℕ) (arguments arguments' : List ℕ) (budget budget' : ℕ) (trace trace' : List ℕ)
         → words_of arguments' ≡ with_guard (procedure_at tree.procedures f) (words_of arguments)
@@ -140,5 +135,5 @@ module _ (image out : List ℕ) (n : ℕ) (e : (compile_bytes image out).0 ≡ W
         }
 
     pub target_loads : (cells : List ℕ) → Bytes cells → 4 * cell_count tree.arrays ≤ length cells
-        → load_bytes target cells ≡ (Done 0 0 0, cleared tree cells)
+        → load_bytes target cells ≡ (Done 0 0 0, cleared (cell_count tree.arrays) cells)
     target_loads cells are h = same_meaning.loads cells ∙ load_is_done image cells are tree (record { admissible = a; enough = h })

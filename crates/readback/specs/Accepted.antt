@@ -6,7 +6,7 @@ use Rattle.std.proofs.Common.{◌∙◌}
 use Rattle.std.proofs.lemmas.Bool.{lt-leb}
 use Rattle.definitions.specs.declared.ConstantLoop.{ConstantLoop}
 use Rattle.definitions.specs.Operators.{operator, word_sort, boolean_sort, unary_operand, both, right}
-use Rattle.definitions.specs.Image.{array_secret, array_fixed, type_secret, type_sort, Expression, place_of, Statement, Block, Procedure}
+use Rattle.definitions.specs.Image.{array_secret, type_secret, type_sort, Expression, place_of, Statement, Block, Procedure}
 use Rattle.definitions.specs.Image.{procedure_at}
 use Rattle.definitions.specs.Faults.{fault_if}
 use Rattle.definitions.specs.Sorts.{sort_of, sort_in, ordinary, outside, inside, sort_faults, operand_faults}
@@ -62,7 +62,7 @@ mutual
   like_marks (like_step {s = s} x y) marks = rw (like_mark x marks) (like_marks y (mark_statement s marks))
 
 module _ (types arrays marks : List ℕ) where
-  pub good_sorts : {e f : Expression} → GoodExpression types arrays marks e → LikeExpression e f → sort_faults types arrays marks f ≡ []
+  pub good_sorts : {e f : Expression} → GoodExpression types arrays marks e → LikeExpression e f → sort_faults types (length arrays) marks f ≡ []
   unfolding sort_faults
   good_sorts good_constant like_constant = refl
   good_sorts (good_boolean h) like_boolean = refl
@@ -103,7 +103,7 @@ like_at (like_next l ls) (suc f) = like_at ls f
 
 module _ (types arrays marks callee : List ℕ) where
   good_argument_sorts :
-      {k : ℕ} {es fs : List Expression} → GoodArguments types arrays marks callee k es → LikeAll es fs → argument_faults types arrays marks callee k fs ≡ []
+      {k : ℕ} {es fs : List Expression} → GoodArguments types arrays marks callee k es → LikeAll es fs → argument_faults types (length arrays) marks callee k fs ≡ []
   unfolding argument_faults
   good_argument_sorts good_none like_none = refl
   good_argument_sorts (good_more {k} g s l gs) (like_more {f = f} x xs) =
@@ -123,7 +123,7 @@ module _ (types arrays marks callee : List ℕ) where
 module _ (ps qs : List Procedure) (same : LikeProcedures ps qs) (me parameters : ℕ) (types : List ℕ) (result : ℕ) (arrays : List ℕ) where
   operand_sorts :
       (marks : List ℕ) {e f : Expression} (want : ℕ) → GoodExpression types arrays marks e → LikeExpression e f → sort_in types e ≡ want
-      → operand_faults types arrays marks want f ≡ []
+      → operand_faults types (length arrays) marks want f ≡ []
   operand_sorts marks {f = f} want g x s = nil_both _ _ (good_sorts types arrays marks g x) (right_sort want (sort_in types f) (place_of f) (like_sort types x ∙ s))
 
   unmarked : (marks : List ℕ) (x p : ℕ) → eqb (get_or marks x 0) ordinary ≡ true → fault_if (not (eqb (get_or marks x 0) ordinary)) 8 p ≡ []
@@ -134,13 +134,11 @@ module _ (ps qs : List Procedure) (same : LikeProcedures ps qs) (me parameters :
 
     pub good_statement_sorts :
         {marks : List ℕ} {s t : Statement} → GoodStatement ps me parameters types result arrays marks s → LikeStatement s t → (p : ℕ)
-        → statement_sort_faults qs parameters types result arrays marks p t ≡ []
+        → statement_sort_faults qs parameters types result (length arrays) marks p t ≡ []
     good_statement_sorts (good_assign {marks} {x} h m g s l) (like_assign e) p =
         nil_both _ _ (no_fault_lem (leb (length types) x) 6 p (lt-leb (length types) x h)) (nil_both _ _ (unmarked marks x p m) (operand_sorts marks (sort_of types x) g e s))
-    good_statement_sorts (good_store {marks} {a} h free g g' s s' l l') (like_store i e) p =
-        nil_both _ _ (no_fault_lem (leb (length arrays) a) 6 p (lt-leb (length arrays) a h))
-        (nil_both _ _ (no_fault_lem (array_fixed (get_or arrays a 0)) 30 p free)
-        (nil_both _ _ (operand_sorts marks word_sort g i s) (operand_sorts marks word_sort g' e s')))
+    good_statement_sorts (good_store {marks} {a} h g g' s s' l l') (like_store i e) p =
+        nil_both _ _ (no_fault_lem (leb (length arrays) a) 6 p (lt-leb (length arrays) a h)) (nil_both _ _ (operand_sorts marks word_sort g i s) (operand_sorts marks word_sort g' e s'))
     good_statement_sorts (good_conditional {marks} g s l x y) (like_conditional c a b) p =
         nil_both _ _ (operand_sorts marks boolean_sort g c s) (nil_both _ _ (good_block_sorts x a) (good_block_sorts y b))
     good_statement_sorts (good_loop {marks} {x} h r g g' s s' l l' z) (like_loop f t b) p =
@@ -156,7 +154,7 @@ module _ (ps qs : List Procedure) (same : LikeProcedures ps qs) (me parameters :
 
     pub good_block_sorts :
         {marks : List ℕ} {b c : Block} → GoodBlock ps me parameters types result arrays marks b → LikeBlock b c
-        → block_sort_faults qs parameters types result arrays marks c ≡ []
+        → block_sort_faults qs parameters types result (length arrays) marks c ≡ []
     good_block_sorts good_done like_done = refl
     good_block_sorts (good_step g gs) (like_step {q = q} s b) = nil_both _ _ (good_statement_sorts g s q) (good_block_sorts gs b)
 
@@ -166,7 +164,7 @@ module _ (ps qs : List Procedure) (same : LikeProcedures ps qs) (me parameters :
 
     pub good_rc : {marks : List ℕ} {s t : Statement} → GoodStatement ps me parameters types result arrays marks s → LikeStatement s t → rc_after types arrays false false t ≡ false
     good_rc (good_assign h m g s l) (like_assign e) = refl
-    good_rc (good_store h free g g' s s' l l') (like_store i e) = refl
+    good_rc (good_store h g g' s s' l l') (like_store i e) = refl
     good_rc (good_conditional g s l x y) (like_conditional c a b) = rw (like_secret types arrays c, l, good_rcs x a, good_rcs y b)
     good_rc (good_loop h r g g' s s' l l' z) (like_loop f t b) = good_rcs z b
     good_rc (good_return g s l) (like_return e) = refl
@@ -195,7 +193,7 @@ module _ (ps qs : List Procedure) (same : LikeProcedures ps qs) (me parameters :
     good_statement_labels (good_assign {marks} {x} {e} h m g s l) (like_assign {f = f} k) bounds p =
         nil_both _ _ (flow (secret_in types arrays f) (secret_in types arrays e) (not (type_secret (get_or types x 0))) p (like_secret types arrays k) l)
         (good_labels types arrays marks bounds g k)
-    good_statement_labels (good_store {marks} {a} {i} {e} h free g g' s s' l l') (like_store {j = j} {f = f} k k') bounds p =
+    good_statement_labels (good_store {marks} {a} {i} {e} h g g' s s' l l') (like_store {j = j} {f = f} k k') bounds p =
         nil_both _ _ (flow (secret_in types arrays f) (secret_in types arrays e) (not (array_secret (get_or arrays a 0))) p (like_secret types arrays k') l')
         (nil_both _ _ (good_labels types arrays marks bounds g k)
         (nil_both _ _ (nil_both _ _ (no_fault_lem (secret_in types arrays j) 10 (place_of j) (like_secret types arrays k ∙ l)) refl) (good_labels types arrays marks bounds g' k')))

@@ -1,22 +1,21 @@
 -- The reader reads the words that spell an image as that image, up to places. Assumes nothing.
-use Rattle.std.specs.Prelude.{ℕ, suc, ◌+◌, ◌*◌, ◌/◌, ◌%◌, ◌-◌, ◌≤◌, ◌<◌, Bool, true, false, ◌≡◌, refl, leb, eqb, length, get_or, set, take, drop, replicate}
+use Rattle.std.specs.Prelude.{ℕ, suc, ◌+◌, ◌*◌, ◌/◌, ◌%◌, ◌-◌, ◌≤◌, ◌<◌, Bool, true, false, ◌≡◌, refl, eqb, length, get_or, set, replicate}
 use mathlib.Core.List.{List, [], ◌∷◌, ◌++◌, flat_map}
-use Rattle.std.proofs.Common.{sym, ap, ◌∙◌, arith, zero-add, length-set, length-drop, take-append-drop, length-take-le, lt-ltb, le-leb, eq-eqb}
+use Rattle.std.proofs.Common.{sym, ◌∙◌, arith, zero-add, length-set, lt-ltb, le-leb, eq-eqb}
 use Rattle.std.proofs.Math.Dec.{eqb-suc-zero}
 use Rattle.std.proofs.lemmas.List.{length-replicate}
 use Rattle.definitions.specs.Choice.{pick}
-use Rattle.definitions.specs.Image.{kind_of, payload_of, header_word, largest_image, largest_level, array_length, array_word, table_length, table_count}
+use Rattle.definitions.specs.Image.{kind_of, payload_of, header_word, largest_image, largest_level, array_length, array_word}
 use Rattle.definitions.specs.Image.{mode_of, parameters_of, locals_of, procedure_word, type_word, Procedure, Image}
 use Rattle.definitions.specs.Reading.{Parse, got, and_then, on_word, read_block, read_types, read_procedure, read_procedures}
-use Rattle.definitions.specs.Reading.{refused, read_array, read_arrays, tables_at, read_rest, read_image}
+use Rattle.definitions.specs.Reading.{read_arrays, read_rest, read_image}
 use Rattle.definitions.specs.Encoding.{word_with, statement_count, statements_words, block_words, procedure_words}
-use Rattle.definitions.specs.Encoding.{procedures_words, arrays_words, image_words}
+use Rattle.definitions.specs.Encoding.{procedures_words, image_words}
 use Rattle.laws.specs.Reads.{Arities}
 use Rattle.statements.specs.Limits.{AllTypes, no_types, more_types, FitsArrays, no_arrays, more_arrays, FitsProcedure}
 use Rattle.statements.specs.Limits.{FitsProcedures, no_procedures, more_procedures, arity_of, FitsImage}
 use Rattle.laws.specs.ReadImages.{known_next}
-use Rattle.laws.specs.Spelled.{On, on_first, on_nothing, on_split, on_end, on_length, on_whole}
-use Rattle.laws.specs.Tables.{on_taken}
+use Rattle.laws.specs.Spelled.{On, on_first, on_nothing, on_split, on_whole}
 use Rattle.readback.specs.Like.{LikeBlock, LikeProcedure, LikeProcedures, like_empty, like_next, LikeImage}
 use Rattle.readback.specs.Parses.{Reads, reads, reads_then, reads_word}
 use Rattle.readback.specs.BackBody.{back_block}
@@ -30,49 +29,16 @@ back_types (more_types {w} {ws} h hs) image at next o =
     reads_word image at w type_word {f = λ v. and_then (read_types (length ws) image (at + 1)) (λ us m. got (v ∷ us) m)} a e h
     (λ v q. reads_then {f = λ us m. got (v ∷ us) m} r (λ us k q' z. reads q' (rw (q, z))))
 
-back_array : (cells w : ℕ) (image : List ℕ) (at : ℕ) → at < length image → get_or image at 0 ≡ w → array_word cells w ≡ true
-    → at + 1 + table_length w ≤ length image → Reads (λ v. v ≡ w) (at + 1 + table_length w) (read_array cells image at)
-unfolding read_array
-back_array cells w image at a e h room =
-    reads_word image at w (λ z. array_word cells z)
-    {f = λ v. pick (leb (at + 1 + table_length v) (length image)) (got v (at + 1 + table_length v)) (refused 3 (length image))} a e h
-    (λ v q. rw (q, le-leb (at + 1 + table_length w) (length image) room) (reads refl refl))
-
 pub back_arrays :
-    {cells : ℕ} {ws : List ℕ} → FitsArrays cells ws → (tables : List ℕ) → length tables ≡ table_count ws → (image : List ℕ) (at next : ℕ)
-    → On image at (arrays_words ws tables) next → Reads (λ us. us ≡ ws) next (read_arrays (length ws) cells image at)
-unfolding read_arrays arrays_words table_count
-back_arrays no_arrays tables c image at next o = reads (on_nothing o) refl
-back_arrays (more_arrays {cells} {w} {ws} h hs) tables c image at next o =
+    {cells : ℕ} {ws : List ℕ} → FitsArrays cells ws → (image : List ℕ) (at next : ℕ) → On image at ws next
+    → Reads (λ us. us ≡ ws) next (read_arrays (length ws) cells image at)
+unfolding read_arrays
+back_arrays no_arrays image at next o = reads (on_nothing o) refl
+back_arrays (more_arrays {cells} {w} {ws} h hs) image at next o =
     let (a, e, n) = on_first o in
-    let (m, n₁, n₂) = on_split (take (table_length w) tables) (arrays_words ws (drop (table_length w) tables)) n in
-    let long = length-take-le (table_length w) tables (omega arith) in
-    let short = length-drop (table_length w) tables in
-    let end = on_end n₁ in
-    let behind : m ≡ at + 1 + table_length w = omega arith in
-    let within = on_length n₁ (omega arith) in
-    let r = back_arrays hs (drop (table_length w) tables) (omega arith) image m next n₂ in
-    reads_then (back_array cells w image at a e h (omega arith))
-    (λ v k q z. rw z (reads_then {f = λ us o. got (w ∷ us) o} (rw (behind ∙ sym q) at r) (λ us o q' y. reads q' (rw y))))
-
--- and their tables
-pub back_tables : (ws tables : List ℕ) → length tables ≡ table_count ws → (image : List ℕ) (at next : ℕ) → On image at (arrays_words ws tables) next
-    → tables_at ws image at ≡ tables
-unfolding tables_at arrays_words table_count
-back_tables [] [] c image at next o = refl
-back_tables [] (t ∷ ts) c image at next o = absurd (omega arith)
-back_tables (w ∷ ws) tables c image at next o =
-    let (a, e, n) = on_first o in
-    let (m, n₁, n₂) = on_split (take (table_length w) tables) (arrays_words ws (drop (table_length w) tables)) n in
-    let long = length-take-le (table_length w) tables (omega arith) in
-    let short = length-drop (table_length w) tables in
-    let end = on_end n₁ in
-    let behind : m ≡ at + 1 + table_length w = omega arith in
-    let first : take (table_length w) (drop (at + 1) image) ≡ take (table_length w) tables
-    = ap (λ (k : ℕ). take k (drop (at + 1) image)) (sym long) ∙ on_taken n₁ in
-    let rest : tables_at ws image (at + 1 + table_length w) ≡ drop (table_length w) tables
-    = ap (λ (k : ℕ). tables_at ws image k) (sym behind) ∙ back_tables ws (drop (table_length w) tables) (omega arith) image m next n₂ in
-    rw (first, rest) (take-append-drop (table_length w) tables)
+    let r = back_arrays hs image (at + 1) next n in
+    reads_word image at w (λ z. array_word cells z) {f = λ v. and_then (read_arrays (length ws) (cells + array_length v) image (at + 1)) (λ us m. got (v ∷ us) m)} a e h
+    (λ v q. rw q (reads_then {f = λ us m. got (w ∷ us) m} r (λ us k q' z. reads q' (rw z))))
 
 -- the fields of a procedure's word, and of a header
 abbrev packed : ℕ → ℕ → ℕ → ℕ → ℕ
@@ -199,20 +165,19 @@ largest_small form n = go (eqb form 0)
     go false h = omega arith
 
 back_rest :
-    (i : Image) → FitsImage i → (image : List ℕ) → length image < 268435456 → On image 1 (arrays_words i.arrays i.tables ++ procedures_words i.procedures) (length image)
+    (i : Image) → FitsImage i → (image : List ℕ) → length image < 268435456 → On image 1 (i.arrays ++ procedures_words i.procedures) (length image)
     → Reads (LikeImage i) (length image) (read_rest (packed_header i) image)
 unfolding read_rest
 back_rest i fit image small o =
-    let (m, n₁, n₂) = on_split (arrays_words i.arrays i.tables) (procedures_words i.procedures) o in
-    go m (back_tables i.arrays i.tables fit.tables_fit image 1 m n₁)
-    (back_arrays fit.arrays_fit i.tables fit.tables_fit image 1 m n₁)
+    let (m, n₁, n₂) = on_split i.arrays (procedures_words i.procedures) o in
+    go m (back_arrays fit.arrays_fit image 1 m n₁)
     (back_procedures image small i.form (arity_of i.procedures) fit.procedures_fit (replicate 32 0) (λ f h. absurd (omega arith))
     (rw (length-replicate {A = ℕ} 32 0, zero-add) fit.few_procedures) (rw (length-replicate {A = ℕ} 32 0) (omega arith)) m (length image) n₂)
   where
-    go : (m : ℕ) → tables_at i.arrays image 1 ≡ i.tables → Reads (λ us. us ≡ i.arrays) m (read_arrays (length i.arrays) 0 image 1)
+    go : (m : ℕ) → Reads (λ us. us ≡ i.arrays) m (read_arrays (length i.arrays) 0 image 1)
         → Reads (LikeProcedures i.procedures) (length image) (read_procedures (length i.procedures) i.form (replicate 32 0) 0 image m)
         → Reads (LikeImage i) (length image) (read_rest (packed_header i) image)
-    go m t r s =
+    go m r s =
         let h₀ = fit.form_fits in
         let h₁ = fit.few_arrays in
         let h₂ = fit.few_procedures in
@@ -222,13 +187,13 @@ back_rest i fit image small o =
           packed_low 1 i.form (length i.arrays) (length i.procedures) (omega arith) (omega arith) (omega arith),
         )
         (reads_then r (λ ws k q z. reads_then (rw (sym q) at s) (λ ps k' q' z'.
-        rw (eq-eqb k' (length image) q') (reads q' (record { forms = refl; arrays = sym z; tables = sym (ap (λ (us : List ℕ). tables_at us image 1) z ∙ t); procedures = z' })))))
+        rw (eq-eqb k' (length image) q') (reads q' (record { forms = refl; arrays = sym z; procedures = z' })))))
 
 -- An image that fits, and is no longer than its form allows, is read back from its words.
 pub back_image : (i : Image) → FitsImage i → length (image_words i) ≤ largest_image i.form → Reads (LikeImage i) (length (image_words i)) (read_image true (image_words i))
 unfolding read_image image_words
 back_image i fit few =
-    let rest = arrays_words i.arrays i.tables ++ procedures_words i.procedures in
+    let rest = i.arrays ++ procedures_words i.procedures in
     let h₀ = fit.form_fits in
     let h₁ = fit.few_arrays in
     let h₂ = fit.few_procedures in

@@ -32,7 +32,7 @@ module _ (here : Setting) where
   -- a bound of a for
   bound_good :
       {l : ℕ} {e : Expression} → FitsExpression l e → (marks marks' : List ℕ) (bounds : List ConstantLoop) (context : Bool) → Marked first (length types) marks marks'
-      → operand_faults types arrays marks word_sort e ≡ [] → loop_bound_faults types arrays bounds context e ≡ []
+      → operand_faults types (length arrays) marks word_sort e ≡ [] → loop_bound_faults types arrays bounds context e ≡ []
       → GoodExpression types arrays marks e × (sort_in types e ≡ word_sort) × (secret_in types arrays e ≡ false)
   bound_good {e = e} fit marks marks' bounds context m s l =
       let z = operand_good here marks marks' m fit bounds context word_sort refl s (nil_left (label_faults types arrays bounds context e) _ l) in (
@@ -61,9 +61,9 @@ module _ (here : Setting) where
   loop_good x f t b fit fit' inner pc arm rc k marks marks' bounds p m a d pairs temporaries s l =
       let f₆ = fault_if (leb (length types) x) 6 p in
       let f₈ = loop_fault types parameters marks x p in
-      let ff = operand_faults types arrays marks word_sort f in
-      let ft = operand_faults types arrays marks word_sort t in
-      let fb = block_sort_faults ps parameters types result arrays (set marks x inside) b in
+      let ff = operand_faults types (length arrays) marks word_sort f in
+      let ft = operand_faults types (length arrays) marks word_sort t in
+      let fb = block_sort_faults ps parameters types result (length arrays) (set marks x inside) b in
       let lf = loop_bound_faults types arrays bounds (pc || rc) f in
       let lt = loop_bound_faults types arrays bounds (pc || rc) t in
       let lb = block_label_faults form ps arrays types result (bounds_inside bounds x f t) pc (rc_after_block types arrays pc rc b) b in
@@ -144,9 +144,9 @@ module _ (here : Setting) where
   pub conditional_good : {l : ℕ} (c : Expression) (x y : Block) → FitsExpression l c → BlockGood here x → BlockGood here y → StatementGood here (conditional c x y)
   unfolding statement_sort_faults statement_label_faults compiled_statement statement_nesting statement_needs rc_after
   conditional_good c x y fit ix iy pc arm rc k marks marks' bounds p m a d pairs temporaries s l =
-      let fc = operand_faults types arrays marks boolean_sort c in
-      let fx = block_sort_faults ps parameters types result arrays marks x in
-      let fy = block_sort_faults ps parameters types result arrays marks y in
+      let fc = operand_faults types (length arrays) marks boolean_sort c in
+      let fx = block_sort_faults ps parameters types result (length arrays) marks x in
+      let fy = block_sort_faults ps parameters types result (length arrays) marks y in
       let f₁₃ = fault_if (eqb form 1 && secret_in types arrays c) 13 p in
       let lc = label_faults types arrays bounds (pc || rc) c in
       let lx = block_label_faults form ps arrays types result bounds (pc || secret_in types arrays c) rc x in

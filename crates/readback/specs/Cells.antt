@@ -1,14 +1,12 @@
--- Load, clear, poke and peek are answered on the compiled words as on the source's: their arrays and tables are the same. Assumes nothing.
-use Rattle.std.specs.Prelude.{ℕ, ◌+◌, Bool, ◌&&◌, ◌≡◌, leb, eqb, length, get_or}
+-- Load, clear, poke and peek are answered on the compiled words as on the source's: their arrays are the same. Assumes nothing.
+use Rattle.std.specs.Prelude.{ℕ, ◌+◌, Bool, ◌&&◌, List, ◌++◌, ◌≡◌, leb, eqb, length, get_or}
 use Rattle.std.proofs.Math.Bool.{true, false}
-use mathlib.Core.List.{List, ◌++◌}
 use Rattle.std.proofs.Math.Path.{refl, ap}
-use Rattle.std.proofs.Common.{◌∙◌}
 use Rattle.std.proofs.Math.Dec.{ltb}
-use Rattle.std.proofs.Math.ListN.{set, drop}
+use Rattle.std.proofs.Math.ListN.{set, replicate, drop}
 use Rattle.definitions.specs.Choice.{pick}
 use Rattle.definitions.specs.declared.Answer.TheVariants.{Refused}
-use Rattle.definitions.specs.Image.{Image, cell_count, array_length, array_fixed, start_cells, base_of, header_word, form_of, largest_image}
+use Rattle.definitions.specs.Image.{Image, cell_count, array_length, base_of, header_word, form_of, largest_image}
 use Rattle.definitions.specs.Reading.{got, refused, read_rest, read_image}
 use Rattle.definitions.specs.Checking.{fault_of, admitted}
 use Rattle.definitions.specs.Encoding.{image_words}
@@ -53,40 +51,39 @@ module _ (whole : Bool) (words : List ℕ) (image : Image) (n : ℕ) (reading : 
   source_call cells f arguments budget room = rw (source_ready (length cells))
 
   module _ (r : ReadBack image) where
-    -- a request that asks for nothing but the arrays and the tables
+    -- a request that asks for nothing but the arrays
     by_arrays :
-        (f : List ℕ → List ℕ → Served) (cells : List ℕ) → served (lent_enough r.tree (length cells)) cells (λ i. f i.arrays i.tables) ≡ served (lent_enough image (length cells)) cells (λ i. f i.arrays i.tables)
+        (f : List ℕ → Served) (cells : List ℕ) → served (lent_enough r.tree (length cells)) cells (λ i. f i.arrays) ≡ served (lent_enough image (length cells)) cells (λ i. f i.arrays)
     unfolding served lent_enough
     by_arrays f cells = go r.tree.arrays r.same_arrays (leb (cell_count image.arrays) (length cells))
       where
-        either : (b : Bool) → served (pick b (ready r.tree) (unready 17 0)) cells (λ i. f i.arrays i.tables) ≡ served (pick b (ready image) (unready 17 0)) cells (λ i. f i.arrays i.tables)
-        either true = ap (λ (ws : List ℕ). f ws r.tree.tables) r.same_arrays ∙ ap (f image.arrays) r.same_tables
+        either : (b : Bool) → served (pick b (ready r.tree) (unready 17 0)) cells (λ i. f i.arrays) ≡ served (pick b (ready image) (unready 17 0)) cells (λ i. f i.arrays)
+        either true = ap f r.same_arrays
         either false = refl
 
         go : (arrays : List ℕ) → arrays ≡ image.arrays → (b : Bool)
-            → served (pick (leb (cell_count arrays) (length cells)) (ready r.tree) (unready 17 0)) cells (λ i. f i.arrays i.tables)
-            ≡ served (pick (leb (cell_count image.arrays) (length cells)) (ready image) (unready 17 0)) cells (λ i. f i.arrays i.tables)
+            → served (pick (leb (cell_count arrays) (length cells)) (ready r.tree) (unready 17 0)) cells (λ i. f i.arrays)
+            ≡ served (pick (leb (cell_count image.arrays) (length cells)) (ready image) (unready 17 0)) cells (λ i. f i.arrays)
         go arrays e b = rw e (either (leb (cell_count image.arrays) (length cells)))
 
     pub same_load : (cells : List ℕ) → load true (image_words (compiled_image image)) cells ≡ load whole words cells
     unfolding load
     same_load cells =
-        rw (compiled_loads image r (length cells), source_loads (length cells)) (by_arrays (λ ws ts. (carried_out 0, start_cells ws ts ++ drop (cell_count ws) cells)) cells)
+        rw (compiled_loads image r (length cells), source_loads (length cells)) (by_arrays (λ ws. (carried_out 0, replicate (cell_count ws) 0 ++ drop (cell_count ws) cells)) cells)
 
     pub same_clear : (cells : List ℕ) → clear true (image_words (compiled_image image)) cells ≡ clear whole words cells
     unfolding clear
     same_clear cells =
-        rw (compiled_ready image r (length cells), source_ready (length cells)) (by_arrays (λ ws ts. (carried_out 0, start_cells ws ts ++ drop (cell_count ws) cells)) cells)
+        rw (compiled_ready image r (length cells), source_ready (length cells)) (by_arrays (λ ws. (carried_out 0, replicate (cell_count ws) 0 ++ drop (cell_count ws) cells)) cells)
 
     pub same_poke : (cells : List ℕ) (a k v : ℕ) → poke true (image_words (compiled_image image)) cells a k v ≡ poke whole words cells a k v
     unfolding poke
     same_poke cells a k v =
         rw (compiled_ready image r (length cells), source_ready (length cells))
-        (by_arrays (λ ws ts. pick (ltb a (length ws) && ltb k (array_length (get_or ws a 0)))
-        (pick (array_fixed (get_or ws a 0)) (Refused 30 0, cells) (carried_out 0, set cells (base_of ws a + k) v)) (Refused 17 0, cells)) cells)
+        (by_arrays (λ ws. pick (ltb a (length ws) && ltb k (array_length (get_or ws a 0))) (carried_out 0, set cells (base_of ws a + k) v) (Refused 17 0, cells)) cells)
 
     pub same_peek : (cells : List ℕ) (a k : ℕ) → peek true (image_words (compiled_image image)) cells a k ≡ peek whole words cells a k
     unfolding peek
     same_peek cells a k =
         rw (compiled_ready image r (length cells), source_ready (length cells))
-        (by_arrays (λ ws ts. pick (ltb a (length ws) && ltb k (array_length (get_or ws a 0))) (carried_out (get_or cells (base_of ws a + k) 0), cells) (Refused 17 0, cells)) cells)
+        (by_arrays (λ ws. pick (ltb a (length ws) && ltb k (array_length (get_or ws a 0))) (carried_out (get_or cells (base_of ws a + k) 0), cells) (Refused 17 0, cells)) cells)

@@ -37,15 +37,15 @@ accepted_source whole words image n e f h =
 module _ (ps qs : List Procedure) (same : LikeProcedures ps qs) (arrays : List ℕ) where
   like_block_sorts :
       (me parameters : ℕ) (types : List ℕ) (result : ℕ) (b c : Block) → GoodBlock ps me parameters types result arrays (mark_block b (replicate 256 ordinary)) b → LikeBlock b c
-      → block_sort_faults qs parameters types result arrays (mark_block c (replicate 256 ordinary)) c ≡ []
+      → block_sort_faults qs parameters types result (length arrays) (mark_block c (replicate 256 ordinary)) c ≡ []
   like_block_sorts me parameters types result b c g l = rw (like_marks l (replicate 256 ordinary)) (good_block_sorts ps qs same me parameters types result arrays g l)
 
-  like_procedure_sorts : (me : ℕ) (p q : Procedure) → GoodProcedure ps arrays me p → LikeProcedure p q → procedure_sort_faults qs arrays q ≡ []
+  like_procedure_sorts : (me : ℕ) (p q : Procedure) → GoodProcedure ps arrays me p → LikeProcedure p q → procedure_sort_faults qs (length arrays) q ≡ []
   unfolding procedure_sort_faults
   like_procedure_sorts me p q g l = go q.parameters l.parameters q.types l.types q.result l.results
     where
       go : (n : ℕ) → p.parameters ≡ n → (types : List ℕ) → p.types ≡ types → (result : ℕ) → p.result ≡ result
-          → block_sort_faults qs n types result arrays (mark_block q.body (replicate 256 ordinary)) q.body ≡ []
+          → block_sort_faults qs n types result (length arrays) (mark_block q.body (replicate 256 ordinary)) q.body ≡ []
       go n e types e' result e'' = rw (sym e, sym e', sym e'') (like_block_sorts me p.parameters p.types p.result p.body q.body g l.bodies)
 
   like_procedure_labels :
@@ -57,11 +57,11 @@ module _ (ps qs : List Procedure) (same : LikeProcedures ps qs) (arrays : List �
           → block_label_faults 1 qs arrays types result (replicate 256 unbounded) (eqb mode 1) false q.body ≡ []
       go types e result e' mode e'' = rw (sym e, sym e', e'') (good_block_labels ps qs same me p.parameters p.types p.result arrays g l.bodies (replicate 256 unbounded))
 
-  like_procedures_sorts : {me : ℕ} {rest rest' : List Procedure} → GoodProcedures ps arrays me rest → LikeProcedures rest rest' → procedures_sort_faults qs arrays rest' ≡ []
+  like_procedures_sorts : {me : ℕ} {rest rest' : List Procedure} → GoodProcedures ps arrays me rest → LikeProcedures rest rest' → procedures_sort_faults qs (length arrays) rest' ≡ []
   unfolding procedures_sort_faults flat_map
   like_procedures_sorts good_empty like_empty = refl
   like_procedures_sorts (good_next {me} {p} m g gs) (like_next {q = q} l ls) =
-      nil_both (procedure_sort_faults qs arrays q) _ (like_procedure_sorts me p q g l) (like_procedures_sorts gs ls)
+      nil_both (procedure_sort_faults qs (length arrays) q) _ (like_procedure_sorts me p q g l) (like_procedures_sorts gs ls)
 
   like_procedures_labels :
       (image : Image) → image.form ≡ 1 → image.procedures ≡ qs → image.arrays ≡ arrays → {me : ℕ} {rest rest' : List Procedure} → GoodProcedures ps arrays me rest → LikeProcedures rest rest'
@@ -120,10 +120,9 @@ pub record ReadBack (image : Image) : Type 0 where
   pub reading : read_image true (image_words (compiled_image image)) ≡ got tree (length (image_words (compiled_image image)))
   -- it is the compiled tree up to places
   pub like : LikeImage (compiled_image image) tree
-  -- so it is in form 1, over the source's arrays and tables
+  -- so it is in form 1, over the source's arrays
   pub in_form : tree.form ≡ 1
   pub same_arrays : tree.arrays ≡ image.arrays
-  pub same_tables : tree.tables ≡ image.tables
   -- and has no fault
   pub faultless : (fault_of tree).number ≡ 0
 
@@ -138,7 +137,6 @@ made image s (reads {a = j} {n} e l) r =
       like = l;
       in_form = sym l.forms;
       same_arrays = sym l.arrays;
-      same_tables = sym l.tables;
       faultless = like_compiled_faultless image s j l;
     }
 

@@ -2,7 +2,7 @@
 -- Assumes nothing.
 use Rattle.std.specs.Prelude.{ℕ, ◌+◌, ◌<◌, true, false, ◌&&◌, ◌||◌, not, List, [], ◌∷◌, ◌≡◌, ltb, leb, eqb, length, get_or, set}
 use Rattle.definitions.specs.Operators.{operator, word_sort, boolean_sort, unary_operand, both, right}
-use Rattle.definitions.specs.Image.{array_secret, array_fixed, type_secret, type_sort, Expression, constant, boolean, variable, cell}
+use Rattle.definitions.specs.Image.{array_secret, type_secret, type_sort, Expression, constant, boolean, variable, cell}
 use Rattle.definitions.specs.Image.{unary, binary, select, Statement, assign, store, conditional, loop, return, call}
 use Rattle.definitions.specs.Image.{Block, done, sequence, Procedure, procedure_at}
 use Rattle.definitions.specs.Sorts.{sort_of, sort_in, ordinary, outside, inside}
@@ -42,8 +42,7 @@ mutual
         → sort_in types e ≡ sort_of types x → (secret_in types arrays e && not (type_secret (get_or types x 0))) ≡ false
         → GoodStatement ps me parameters types result arrays marks (assign x e)
     good_store :
-        {marks : List ℕ} {a : ℕ} {i e : Expression} → a < length arrays → array_fixed (get_or arrays a 0) ≡ false
-        → GoodExpression types arrays marks i → GoodExpression types arrays marks e
+        {marks : List ℕ} {a : ℕ} {i e : Expression} → a < length arrays → GoodExpression types arrays marks i → GoodExpression types arrays marks e
         → sort_in types i ≡ word_sort → sort_in types e ≡ word_sort → secret_in types arrays i ≡ false
         → (secret_in types arrays e && not (array_secret (get_or arrays a 0))) ≡ false → GoodStatement ps me parameters types result arrays marks (store a i e)
     good_conditional :

@@ -214,7 +214,7 @@ module _ (ps : List Procedure) (me parameters : ℕ) (types : List ℕ) (result 
     pub good_deep_statement :
         {marks : List ℕ} {l : ℕ} {s : Statement} → DeepStatement l s → GoodStatement ps me parameters types result arrays marks s → FitsStatement (arity_of ps) me l s
     good_deep_statement (deep_assign {x = x} e) (good_assign h m g s l) = fit_assign {x = x} (omega arith) (good_deep t a g e)
-    good_deep_statement (deep_store {a = y} i e) (good_store h free g g' s s' l l') = fit_store {a = y} (omega arith) (good_deep t a g i) (good_deep t a g' e)
+    good_deep_statement (deep_store {a = y} i e) (good_store h g g' s s' l l') = fit_store {a = y} (omega arith) (good_deep t a g i) (good_deep t a g' e)
     good_deep_statement (deep_conditional c b d) (good_conditional g s l x y) = fit_conditional (good_deep t a g c) (good_deep_block b x) (good_deep_block d y)
     good_deep_statement (deep_loop {x = x} f u b) (good_loop h r g g' s s' l l' z) = fit_loop {x = x} (omega arith) (good_deep t a g f) (good_deep t a g' u) (good_deep_block b z)
     good_deep_statement (deep_return e) (good_return g s l) = fit_return (good_deep t a g e)

@@ -54,7 +54,6 @@ pub data LikeProcedures : List Procedure → List Procedure → Type 0 where
 pub record LikeImage (i j : Image) : Type 0 where
   pub forms : i.form ≡ j.form
   pub arrays : i.arrays ≡ j.arrays
-  pub tables : i.tables ≡ j.tables
   pub procedures : LikeProcedures i.procedures j.procedures
 
 -- Words do not show places.
@@ -118,4 +117,4 @@ like_procedure_count (like_next l ls) = rw (like_procedure_count ls)
 
 pub like_image_words : (i j : Image) → LikeImage i j → image_words i ≡ image_words j
 unfolding image_words
-like_image_words i j l = rw (l.forms, l.arrays, l.tables, like_procedure_count l.procedures, like_procedures_words l.procedures)
+like_image_words i j l = rw (l.forms, l.arrays, like_procedure_count l.procedures, like_procedures_words l.procedures)

@@ -243,7 +243,6 @@ module _ {i j : Image} (l : LikeImage i j) where
       record {
         forms = refl;
         arrays = l.arrays;
-        tables = l.tables;
         procedures = rw (sym l.arrays) (like_procedures_code l.procedures i.arrays l.procedures);
       }
 

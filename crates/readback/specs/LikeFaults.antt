@@ -41,7 +41,7 @@ ruleset same = (same_append, same_if)
 
 -- ---- 6 to 8
 
-module _ (types arrays : List ℕ) where
+module _ (types : List ℕ) (arrays : ℕ) where
   same_sorts : (marks : List ℕ) {e f : Expression} → LikeExpression e f → SameNumbers (sort_faults types arrays marks e) (sort_faults types arrays marks f)
   unfolding sort_faults
   same_sorts marks like_constant = same_none
@@ -63,7 +63,7 @@ module _ (types arrays : List ℕ) where
   same_arguments marks callee k (like_more e es) =
       let x = same_sorts marks e in let y = same_arguments marks callee (k + 1) es in rw (like_sort types e) (search same)
 
-module _ {ps qs : List Procedure} (alike : LikeProcedures ps qs) (parameters : ℕ) (types : List ℕ) (result : ℕ) (arrays : List ℕ) where
+module _ {ps qs : List Procedure} (alike : LikeProcedures ps qs) (parameters : ℕ) (types : List ℕ) (result arrays : ℕ) where
   mutual
     unfolding statement_sort_faults block_sort_faults
 
@@ -91,7 +91,7 @@ module _ {ps qs : List Procedure} (alike : LikeProcedures ps qs) (parameters : �
     same_block_sorts marks like_done = same_none
     same_block_sorts marks (like_step {p} {q} s b) = same_append (same_statement_sorts marks p q s) (same_block_sorts marks b)
 
-module _ {ps qs : List Procedure} (alike : LikeProcedures ps qs) (arrays : List ℕ) where
+module _ {ps qs : List Procedure} (alike : LikeProcedures ps qs) (arrays : ℕ) where
   same_procedure_sorts : (p q : Procedure) → LikeProcedure p q → SameNumbers (procedure_sort_faults ps arrays p) (procedure_sort_faults qs arrays q)
   unfolding procedure_sort_faults
   same_procedure_sorts p q l =
@@ -238,7 +238,7 @@ module _ {i j : Image} (l : LikeImage i j) where
 
   pub same_sort_faults : SameNumbers (image_sort_faults i) (image_sort_faults j)
   unfolding image_sort_faults
-  same_sort_faults = rw (sym l.arrays) (same_procedures_sorts l.procedures i.arrays l.procedures)
+  same_sort_faults = rw (sym l.arrays) (same_procedures_sorts l.procedures (length i.arrays) l.procedures)
 
   pub same_label_faults : SameNumbers (image_label_faults i) (image_label_faults j)
   unfolding image_label_faults

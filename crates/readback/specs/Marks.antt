@@ -35,7 +35,7 @@ unfolding compiled_call mark_block mark_statement
 mark_call true g a k f x es marks = refl
 mark_call false g a k f x es marks = refl
 
-module _ (ps : List Procedure) (arrays types : List ℕ) (parameters result first rv : ℕ) (temporary : ℕ → ℕ) (few : length types < 256) where
+module _ (ps : List Procedure) (arrays types : List ℕ) (parameters result first rv : ℕ) (temporary : ℕ → ℕ) (n : ℕ) (few : length types < 256) where
   mark_if :
       (s pc : Bool) (arm : ℕ) (rc : Bool) (live k : ℕ) (c c' : Expression) (x y : Block) (ax ay : ArmCode) (marks marks' : List ℕ)
       → ((q : Bool) (v m : ℕ) (here here' : List ℕ) → Marked first (length types) here here' → Marked first (length types) (mark_block x here) (mark_block (ax q v m) here'))
@@ -53,15 +53,15 @@ module _ (ps : List Procedure) (arrays types : List ℕ) (parameters result firs
     unfolding statement_sort_faults block_sort_faults compiled_statement compiled_block mark_statement mark_block
 
     pub mark_statement_lem :
-        (s : Statement) (others marks marks' : List ℕ) (p : ℕ) → statement_sort_faults ps parameters types result arrays others p s ≡ [] → (pc : Bool) (arm : ℕ) (rc : Bool) (k : ℕ)
+        (s : Statement) (others marks marks' : List ℕ) (p : ℕ) → statement_sort_faults ps parameters types result n others p s ≡ [] → (pc : Bool) (arm : ℕ) (rc : Bool) (k : ℕ)
         → Marked first (length types) marks marks'
         → Marked first (length types) (mark_statement s marks) (mark_block (compiled_statement ps arrays types first rv temporary s pc arm rc k) marks')
     mark_statement_lem (assign x e) others marks marks' p h pc arm rc k m = m
     mark_statement_lem (store a i e) others marks marks' p h pc arm rc k m = m
     mark_statement_lem (conditional c x y) others marks marks' p h pc arm rc k m =
-        let fc = operand_faults types arrays others boolean_sort c in
-        let fx = block_sort_faults ps parameters types result arrays others x in
-        let fy = block_sort_faults ps parameters types result arrays others y in
+        let fc = operand_faults types n others boolean_sort c in
+        let fx = block_sort_faults ps parameters types result n others x in
+        let fy = block_sort_faults ps parameters types result n others y in
         let h₁ = nil_right fc (fx ++ fy) h in
         mark_if (secret_in types arrays c) pc arm rc (rv + 1) k c (moved first c) x y
         (λ q v i. compiled_block ps arrays types first rv temporary x q v rc i)
@@ -71,9 +71,9 @@ module _ (ps : List Procedure) (arrays types : List ℕ) (parameters result firs
     mark_statement_lem (loop x f t b) others marks marks' p h pc arm rc k m =
         let f₆ = fault_if (leb (length types) x) 6 p in
         let f₈ = loop_fault types parameters others x p in
-        let ff = operand_faults types arrays others word_sort f in
-        let ft = operand_faults types arrays others word_sort t in
-        let fb = block_sort_faults ps parameters types result arrays (set others x inside) b in
+        let ff = operand_faults types n others word_sort f in
+        let ft = operand_faults types n others word_sort t in
+        let fb = block_sort_faults ps parameters types result n (set others x inside) b in
         let low = leb-false (length types) x (kept (leb (length types) x) 6 p (nil_left f₆ (f₈ ++ (ff ++ (ft ++ fb))) h)) in
         mark_block_lem b (set others x inside) (set marks x outside) (set marks' (renamed first x) outside)
         (nil_right ft fb (nil_right ff (ft ++ fb) (nil_right f₈ (ff ++ (ft ++ fb)) (nil_right f₆ (f₈ ++ (ff ++ (ft ++ fb))) h)))) pc arm (rc_after_block types arrays pc rc b) k
@@ -84,13 +84,13 @@ module _ (ps : List Procedure) (arrays types : List ℕ) (parameters result firs
         (moved_all first es) marks') m
 
     pub mark_block_lem :
-        (b : Block) (others marks marks' : List ℕ) → block_sort_faults ps parameters types result arrays others b ≡ [] → (pc : Bool) (arm : ℕ) (rc : Bool) (k : ℕ)
+        (b : Block) (others marks marks' : List ℕ) → block_sort_faults ps parameters types result n others b ≡ [] → (pc : Bool) (arm : ℕ) (rc : Bool) (k : ℕ)
         → Marked first (length types) marks marks'
         → Marked first (length types) (mark_block b marks) (mark_block (compiled_block ps arrays types first rv temporary b pc arm rc k) marks')
     mark_block_lem done others marks marks' h pc arm rc k m = m
     mark_block_lem (sequence p s b) others marks marks' h pc arm rc k m =
-        let fs = statement_sort_faults ps parameters types result arrays others p s in
-        let fb = block_sort_faults ps parameters types result arrays others b in
+        let fs = statement_sort_faults ps parameters types result n others p s in
+        let fb = block_sort_faults ps parameters types result n others b in
         let c = compiled_statement ps arrays types first rv temporary s pc arm rc k in
         rw (mark_followed c (compiled_block ps arrays types first rv temporary b pc arm (rc_after types arrays pc rc s) k) marks')
         (mark_block_lem b others (mark_statement s marks) (mark_block c marks') (nil_right fs fb h) pc arm (rc_after types arrays pc rc s) k

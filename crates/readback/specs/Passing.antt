@@ -49,7 +49,7 @@ module _ (here : Setting) where
 
   arguments_good :
       {l : ℕ} {es : List Expression} → FitsAll l es → (marks marks' : List ℕ) (bounds : List ConstantLoop) (context : Bool) → Marked first (length types) marks marks' → (q q' : Procedure) → Callee q q'
-      → (k : ℕ) → k + length es ≡ q.parameters → argument_faults types arrays marks q.types k es ≡ []
+      → (k : ℕ) → k + length es ≡ q.parameters → argument_faults types (length arrays) marks q.types k es ≡ []
       → argument_label_faults types arrays bounds context q.types k es ≡ []
       → (extra : List Expression) → GoodArguments types' arrays marks' q'.types q.parameters extra
       → GoodArguments types' arrays marks' q'.types k (moved_all first es ++ extra)
@@ -57,8 +57,8 @@ module _ (here : Setting) where
   arguments_good fit_none marks marks' bounds context m q q' c k n s l extra g =
       let same : k ≡ q.parameters = omega arith in rw same g
   arguments_good (fit_more {e} {es} fit fits) marks marks' bounds context m q q' c k n s l extra g =
-      let fₑ = operand_faults types arrays marks (sort_of q.types k) e in
-      let fs = argument_faults types arrays marks q.types (k + 1) es in
+      let fₑ = operand_faults types (length arrays) marks (sort_of q.types k) e in
+      let fs = argument_faults types (length arrays) marks q.types (k + 1) es in
       let lₑ = label_faults types arrays bounds context e in
       let f₉ = fault_if (secret_in types arrays e && not (type_secret (get_or q.types k 0))) 9 (place_of e) in
       let ls = argument_label_faults types arrays bounds context q.types (k + 1) es in
@@ -126,7 +126,7 @@ module _ (here : Setting) where
       let f₆ = fault_if (leb (length types) x) 6 p in
       let f₈ = fault_if (not (eqb (get_or marks x 0) ordinary)) 8 p in
       let f₇ = wrong_sort (type_sort r) (sort_of types x) p in
-      let fs = argument_faults types arrays marks (procedure_at ps f).types 0 es in
+      let fs = argument_faults types (length arrays) marks (procedure_at ps f).types 0 es in
       let f₉ = fault_if ((type_secret r || (pc || rc)) && not (type_secret (get_or types x 0))) 9 p in
       let f₁₂ = fault_if ((pc || rc) && not (guarded (procedure_at ps f))) 12 p in
       let ls = argument_label_faults types arrays bounds (pc || rc) (procedure_at ps f).types 0 es in

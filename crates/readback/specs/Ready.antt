@@ -7,7 +7,7 @@ use Rattle.definitions.specs.Choice.{pick}
 use Rattle.definitions.specs.Image.{Image, cell_count}
 use Rattle.definitions.specs.Reading.{got}
 use Rattle.definitions.specs.Checking.{fault_of, without_fault, admitted}
-use Rattle.definitions.specs.Encoding.{procedures_words, arrays_words, image_words}
+use Rattle.definitions.specs.Encoding.{procedures_words, image_words}
 use Rattle.definitions.specs.Compiling.{compiled_image}
 use Rattle.definitions.specs.Requests.{Ready, ready, unready, with_cells, ready_to_load, ready_to_serve}
 use Rattle.readback.specs.Conclusion.{ReadBack}
@@ -28,4 +28,4 @@ compiled_loads image r count = rw r.reading (ready_tree r.tree (length (image_wo
 pub compiled_ready : (image : Image) (r : ReadBack image) (count : ℕ) → ready_to_serve true (image_words (compiled_image image)) count ≡ lent_enough r.tree count
 unfolding ready_to_serve image_words
 compiled_ready image r count =
-    rw (eqb-suc-zero (length (arrays_words (compiled_image image).arrays (compiled_image image).tables ++ procedures_words (compiled_image image).procedures))) (compiled_loads image r count)
+    rw (eqb-suc-zero (length ((compiled_image image).arrays ++ procedures_words (compiled_image image).procedures))) (compiled_loads image r count)

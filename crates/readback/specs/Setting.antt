@@ -181,11 +181,11 @@ module _ (here : Setting) where
     -- an operand that has no fault
     pub operand_good :
         {l : ℕ} {e : Expression} → FitsExpression l e → (bounds : List ConstantLoop) (context : Bool) (want : ℕ) → eqb want no_sort ≡ false
-        → operand_faults types arrays marks want e ≡ [] → label_faults types arrays bounds context e ≡ [] → GoodExpression types arrays marks e × (sort_in types e ≡ want)
+        → operand_faults types (length arrays) marks want e ≡ [] → label_faults types arrays bounds context e ≡ [] → GoodExpression types arrays marks e × (sort_in types e ≡ want)
     operand_good {e = e} fit bounds context want k s l =
-        let g = source_good types arrays marks fit bounds context (nil_left (sort_faults types arrays marks e) _ s) l in (
+        let g = source_good types arrays marks fit bounds context (nil_left (sort_faults types (length arrays) marks e) _ s) l in (
           g,
-          sorts_agree want (sort_in types e) (place_of e) (nil_right (sort_faults types arrays marks e) (wrong_sort want (sort_in types e) (place_of e)) s) k
+          sorts_agree want (sort_in types e) (place_of e) (nil_right (sort_faults types (length arrays) marks e) (wrong_sort want (sort_in types e) (place_of e)) s) k
               (good_known types arrays marks g),
         )
 
@@ -205,7 +205,7 @@ module _ (here : Setting) where
       (pc : Bool) (arm : ℕ) (rc : Bool) (k : ℕ) (marks marks' : List ℕ) (bounds : List ConstantLoop) (p : ℕ) → Marked first (length types) marks marks'
       → (pc ≡ true → Slot arm secret_boolean) → (rc_after types arrays pc rc s ≡ true → Deferred) → Pairs k (statement_nesting arrays types s)
       → Temporaries (λ sort. statement_needs ps arrays types sort pc rc s)
-      → statement_sort_faults ps parameters types result arrays marks p s ≡ [] → statement_label_faults form ps arrays types result bounds pc rc p s ≡ []
+      → statement_sort_faults ps parameters types result (length arrays) marks p s ≡ [] → statement_label_faults form ps arrays types result bounds pc rc p s ≡ []
       → Good' marks' (compiled_statement ps arrays types first rv temporary s pc arm rc k)
 
   abbrev pub BlockGood : Block → Type 0
@@ -213,7 +213,7 @@ module _ (here : Setting) where
       (pc : Bool) (arm : ℕ) (rc : Bool) (k : ℕ) (marks marks' : List ℕ) (bounds : List ConstantLoop) → Marked first (length types) marks marks'
       → (pc ≡ true → Slot arm secret_boolean) → (rc_after_block types arrays pc rc b ≡ true → Deferred) → Pairs k (block_nesting arrays types b)
       → Temporaries (λ sort. block_needs ps arrays types sort pc rc b)
-      → block_sort_faults ps parameters types result arrays marks b ≡ [] → block_label_faults form ps arrays types result bounds pc rc b ≡ []
+      → block_sort_faults ps parameters types result (length arrays) marks b ≡ [] → block_label_faults form ps arrays types result bounds pc rc b ≡ []
       → Good' marks' (compiled_block ps arrays types first rv temporary b pc arm rc k)
 
   pub keeps : (s : Statement) (pc rc : Bool) → (rc_after types arrays pc rc s ≡ true → Deferred) → rc ≡ true → Deferred

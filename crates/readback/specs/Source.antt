@@ -66,7 +66,7 @@ module _ (types arrays marks : List ℕ) where
 
   -- an expression that fits and has no fault is good
   pub source_good :
-      {l : ℕ} {e : Expression} → FitsExpression l e → (bounds : List ConstantLoop) (context : Bool) → sort_faults types arrays marks e ≡ []
+      {l : ℕ} {e : Expression} → FitsExpression l e → (bounds : List ConstantLoop) (context : Bool) → sort_faults types (length arrays) marks e ≡ []
       → label_faults types arrays bounds context e ≡ [] → GoodExpression types arrays marks e
   unfolding sort_faults label_faults
   source_good fit_constant bounds context s l = good_constant
@@ -75,44 +75,44 @@ module _ (types arrays marks : List ℕ) where
       good_variable (leb-false (length types) x (kept (leb (length types) x) 6 p (nil_left _ _ s)))
       (kept (eqb (get_or marks x 0) outside) 8 p (nil_right (fault_if (leb (length types) x) 6 p) _ s))
   source_good (fit_cell {p = p} {a} {i} h f) bounds context s l =
-      let s₁ = nil_right (fault_if (leb (length arrays) a) 6 p) (sort_faults types arrays marks i ++ wrong_sort word_sort (sort_in types i) (place_of i)) s in
-      let g = source_good f bounds context (nil_left (sort_faults types arrays marks i) _ s₁) (nil_left (label_faults types arrays bounds context i) _ l) in
+      let s₁ = nil_right (fault_if (leb (length arrays) a) 6 p) (sort_faults types (length arrays) marks i ++ wrong_sort word_sort (sort_in types i) (place_of i)) s in
+      let g = source_good f bounds context (nil_left (sort_faults types (length arrays) marks i) _ s₁) (nil_left (label_faults types arrays bounds context i) _ l) in
       good_cell (leb-false (length arrays) a (kept (leb (length arrays) a) 6 p (nil_left _ _ s))) g
-      (sorts_agree word_sort (sort_in types i) (place_of i) (nil_right (sort_faults types arrays marks i) _ s₁) refl (good_known g))
+      (sorts_agree word_sort (sort_in types i) (place_of i) (nil_right (sort_faults types (length arrays) marks i) _ s₁) refl (good_known g))
       (kept (secret_in types arrays i) 10 (place_of i) (nil_left (secret_fault types arrays i) _
       (nil_right (label_faults types arrays bounds context i) (index_faults types arrays bounds context a i) l)))
   source_good (fit_unary {o = o} {e} h f) bounds context s l =
-      let g = source_good f bounds context (nil_left (sort_faults types arrays marks e) _ s) l in
-      good_unary h g (sorts_agree (unary_operand o) (sort_in types e) (place_of e) (nil_right (sort_faults types arrays marks e) _ s) (unary_known o).0 (good_known g))
+      let g = source_good f bounds context (nil_left (sort_faults types (length arrays) marks e) _ s) l in
+      good_unary h g (sorts_agree (unary_operand o) (sort_in types e) (place_of e) (nil_right (sort_faults types (length arrays) marks e) _ s) (unary_known o).0 (good_known g))
   source_good (fit_binary {o = o} {e} {f} h k k') bounds context s l =
-      let s₁ = nil_right (sort_faults types arrays marks e)
+      let s₁ = nil_right (sort_faults types (length arrays) marks e)
       (wrong_sort (operator o).operands (sort_in types e) (place_of e) ++
-      (sort_faults types arrays marks f ++ wrong_sort (operator o).operands (sort_in types f) (place_of f))) s in
+      (sort_faults types (length arrays) marks f ++ wrong_sort (operator o).operands (sort_in types f) (place_of f))) s in
       let s₂ = nil_right (wrong_sort (operator o).operands (sort_in types e) (place_of e))
-      (sort_faults types arrays marks f ++ wrong_sort (operator o).operands (sort_in types f) (place_of f)) s₁ in
+      (sort_faults types (length arrays) marks f ++ wrong_sort (operator o).operands (sort_in types f) (place_of f)) s₁ in
       let l₁ = nil_right (label_faults types arrays bounds context e) (label_faults types arrays bounds context f ++ operator_faults types arrays context o e f) l in
       let l₂ = nil_right (label_faults types arrays bounds context f) (operator_faults types arrays context o e f) l₁ in
-      let g = source_good k bounds context (nil_left (sort_faults types arrays marks e) _ s) (nil_left (label_faults types arrays bounds context e) _ l) in
-      let g' = source_good k' bounds context (nil_left (sort_faults types arrays marks f) _ s₂) (nil_left (label_faults types arrays bounds context f) _ l₁) in
+      let g = source_good k bounds context (nil_left (sort_faults types (length arrays) marks e) _ s) (nil_left (label_faults types arrays bounds context e) _ l) in
+      let g' = source_good k' bounds context (nil_left (sort_faults types (length arrays) marks f) _ s₂) (nil_left (label_faults types arrays bounds context f) _ l₁) in
       good_binary h g g'
       (sorts_agree (operator o).operands (sort_in types e) (place_of e) (nil_left (wrong_sort (operator o).operands (sort_in types e) (place_of e)) _ s₁)
       (operator_known o).0 (good_known g))
-      (sorts_agree (operator o).operands (sort_in types f) (place_of f) (nil_right (sort_faults types arrays marks f) _ s₂) (operator_known o).0 (good_known g'))
+      (sorts_agree (operator o).operands (sort_in types f) (place_of f) (nil_right (sort_faults types (length arrays) marks f) _ s₂) (operator_known o).0 (good_known g'))
       (kept (eqb (operator o).publics both && secret_in types arrays e) 10 (place_of e)
       (nil_left (fault_if (eqb (operator o).publics both && secret_in types arrays e) 10 (place_of e)) _ l₂))
       (kept (leb right (operator o).publics && secret_in types arrays f) 10 (place_of f)
       (nil_left (fault_if (leb right (operator o).publics && secret_in types arrays f) 10 (place_of f)) _
       (nil_right (fault_if (eqb (operator o).publics both && secret_in types arrays e) 10 (place_of e)) _ l₂)))
   source_good (fit_select {c = c} {e} {f} k k' k'') bounds context s l =
-      let sₑ = sort_faults types arrays marks e in
-      let sf = sort_faults types arrays marks f in
+      let sₑ = sort_faults types (length arrays) marks e in
+      let sf = sort_faults types (length arrays) marks f in
       let wc = wrong_sort boolean_sort (sort_in types c) (place_of c) in
       let wf = wrong_sort (sort_in types e) (sort_in types f) (place_of f) in
-      let s₁ = nil_right (sort_faults types arrays marks c) (wc ++ (sₑ ++ (sf ++ wf))) s in
+      let s₁ = nil_right (sort_faults types (length arrays) marks c) (wc ++ (sₑ ++ (sf ++ wf))) s in
       let s₂ = nil_right wc (sₑ ++ (sf ++ wf)) s₁ in
       let s₃ = nil_right sₑ (sf ++ wf) s₂ in
       let l₁ = nil_right (label_faults types arrays bounds context c) (label_faults types arrays bounds context e ++ label_faults types arrays bounds context f) l in
-      let g = source_good k bounds context (nil_left (sort_faults types arrays marks c) _ s) (nil_left (label_faults types arrays bounds context c) _ l) in
+      let g = source_good k bounds context (nil_left (sort_faults types (length arrays) marks c) _ s) (nil_left (label_faults types arrays bounds context c) _ l) in
       let g' = source_good k' bounds context (nil_left sₑ _ s₂) (nil_left (label_faults types arrays bounds context e) _ l₁) in
       let g'' = source_good k'' bounds context (nil_left sf _ s₃) (nil_right (label_faults types arrays bounds context e) _ l₁) in
       good_select g g' g''

@@ -26,8 +26,8 @@ module _ (here : Setting) where
   step_good : (p : ℕ) (s : Statement) (b : Block) → StatementGood here s → BlockGood here b → BlockGood here (sequence p s b)
   unfolding block_sort_faults block_label_faults compiled_block block_nesting block_needs rc_after_block
   step_good p s b gs gb pc arm rc k marks marks' bounds m a d pairs temporaries sorts labels =
-      let fs = statement_sort_faults ps parameters types result arrays marks p s in
-      let fb = block_sort_faults ps parameters types result arrays marks b in
+      let fs = statement_sort_faults ps parameters types result (length arrays) marks p s in
+      let fb = block_sort_faults ps parameters types result (length arrays) marks b in
       let ls = statement_label_faults form ps arrays types result bounds pc rc p s in
       let rc' = rc_after types arrays pc rc s in
       let lb = block_label_faults form ps arrays types result bounds pc rc' b in

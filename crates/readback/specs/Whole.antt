@@ -77,7 +77,7 @@ module _ (form : ℕ) (ps ps' : List Procedure) (arrays : List ℕ) (me : ℕ) (
       }
 
   pub procedure_good :
-      procedure_sort_faults ps arrays p ≡ [] → block_label_faults form ps arrays p.types p.result (replicate 256 unbounded) (guarded p) false p.body ≡ []
+      procedure_sort_faults ps (length arrays) p ≡ [] → block_label_faults form ps arrays p.types p.result (replicate 256 unbounded) (guarded p) false p.body ≡ []
       → GoodProcedure ps' arrays me (compiled_procedure ps arrays p)
   unfolding compiled_procedure compiled_body procedure_sort_faults
   procedure_good sorts labels =
@@ -85,7 +85,7 @@ module _ (form : ℕ) (ps ps' : List Procedure) (arrays : List ℕ) (me : ℕ) (
       let marks' = mark_block inner start in
       let deferred = deferred_added ps arrays p named in
       let marked = mark_block_lem ps arrays p.types p.parameters p.result (first_moved p) (return_variable p) (temporary_of ps arrays p)
-      (few_variables fit) p.body marks start start sorts (guarded p) p.parameters false (first_pair arrays p)
+      (length arrays) (few_variables fit) p.body marks start start sorts (guarded p) p.parameters false (first_pair arrays p)
       (marked_start (first_moved p) (length p.types)) in
       rw (mark_closed (defers arrays p) (return_variable p) inner start)
       (body_closed setting (defers arrays p) marks marks' marked inner deferred
@@ -102,13 +102,13 @@ module _ (image : Image) (ps' : List Procedure) where
   pub procedures_good :
       {me : ℕ} {rest : List Procedure} → FitsProcedures 0 (arity_of image.procedures) me rest
       → ((f : ℕ) → f < me + length rest → Callee (procedure_at image.procedures f) (procedure_at ps' f))
-      → procedures_sort_faults image.procedures image.arrays rest ≡ [] → procedures_label_faults image rest ≡ []
+      → procedures_sort_faults image.procedures (length image.arrays) rest ≡ [] → procedures_label_faults image rest ≡ []
       → GoodProcedures ps' image.arrays me (compiled_procedures image.procedures image.arrays rest)
   unfolding procedures_sort_faults procedures_label_faults flat_map procedure_label_faults compiled_procedures
   procedures_good no_procedures callee s l = good_empty
   procedures_good (more_procedures {me} {p} {ps} e fit fits) callee s l =
-      let fs = procedure_sort_faults image.procedures image.arrays p in
-      let gs = procedures_sort_faults image.procedures image.arrays ps in
+      let fs = procedure_sort_faults image.procedures (length image.arrays) p in
+      let gs = procedures_sort_faults image.procedures (length image.arrays) ps in
       let ls = procedure_label_faults image p in
       let ks = procedures_label_faults image ps in
       good_next (open_mode image.procedures image.arrays p)
@@ -208,7 +208,6 @@ fits_of image s g l =
       form_fits = omega arith;
       few_arrays = s.read.few_arrays;
       arrays_fit = s.read.arrays_fit;
-      tables_fit = s.read.tables_fit;
       some_procedure = omega arith;
       few_procedures = omega arith;
       procedures_fit = procedures_compiled_fit image.procedures image.arrays s.read.few_arrays (source_procedures image s)

@@ -7,7 +7,7 @@ use Rattle.std.proofs.Math.Dec.{eqb}
 use Rattle.std.proofs.Math.ListN.{length}
 use borrow.Author.Tests.{leb-false, not-false}
 use Rattle.definitions.specs.Operators.{word_sort, boolean_sort}
-use Rattle.definitions.specs.Image.{array_secret, array_fixed, type_secret, type_sort, Expression, variable, cell, place_of, assign}
+use Rattle.definitions.specs.Image.{array_secret, type_secret, type_sort, Expression, variable, cell, place_of, assign}
 use Rattle.definitions.specs.Image.{store, return}
 use Rattle.definitions.specs.Faults.{fault_if}
 use Rattle.definitions.specs.Sorts.{sort_of, sort_in, ordinary, operand_faults, statement_sort_faults}
@@ -34,7 +34,7 @@ module _ (here : Setting) where
   assign_good x e fit pc arm rc k marks marks' bounds p m a d pairs temporaries s l =
       let f₆ = fault_if (leb (length types) x) 6 p in
       let f₈ = fault_if (not (eqb (get_or marks x 0) ordinary)) 8 p in
-      let fo = operand_faults types arrays marks (sort_of types x) e in
+      let fo = operand_faults types (length arrays) marks (sort_of types x) e in
       let f₉ = fault_if ((secret_in types arrays e || (pc || rc)) && not (type_secret (get_or types x 0))) 9 p in
       let h = leb-false (length types) x (kept (leb (length types) x) 6 p (nil_left f₆ (f₈ ++ fo) s)) in
       let s₁ = nil_right f₆ (f₈ ++ fo) s in
@@ -62,29 +62,26 @@ module _ (here : Setting) where
   unfolding statement_sort_faults statement_label_faults compiled_statement sort_in
   store_good y i e fit fit' pc arm rc k marks marks' bounds p m a d pairs temporaries s l =
       let f₆ = fault_if (leb (length arrays) y) 6 p in
-      let f₃₀ = fault_if (array_fixed (get_or arrays y 0)) 30 p in
-      let fi = operand_faults types arrays marks word_sort i in
-      let fe = operand_faults types arrays marks word_sort e in
+      let fi = operand_faults types (length arrays) marks word_sort i in
+      let fe = operand_faults types (length arrays) marks word_sort e in
       let f₉ = fault_if ((secret_in types arrays e || (pc || rc)) && not (array_secret (get_or arrays y 0))) 9 p in
       let li = label_faults types arrays bounds (pc || rc) i in
       let lx = index_faults types arrays bounds (pc || rc) y i in
       let lₑ = label_faults types arrays bounds (pc || rc) e in
-      let s₀ = nil_right f₆ (f₃₀ ++ (fi ++ fe)) s in
-      let s₁ = nil_right f₃₀ (fi ++ fe) s₀ in
+      let s₁ = nil_right f₆ (fi ++ fe) s in
       let l₁ = nil_right f₉ (li ++ (lx ++ lₑ)) l in
       let l₂ = nil_right li (lx ++ lₑ) l₁ in
       let z = operand_good here marks marks' m fit bounds (pc || rc) word_sort refl (nil_left fi fe s₁) (nil_left li (lx ++ lₑ) l₁) in
       let w = operand_good here marks marks' m fit' bounds (pc || rc) word_sort refl (nil_right fi fe s₁) (nil_right lx lₑ l₂) in
       let public = kept (secret_in types arrays i) 10 (place_of i) (nil_left (secret_fault types arrays i) _ (nil_left lx lₑ l₂)) in
-      go (leb-false (length arrays) y (kept (leb (length arrays) y) 6 p (nil_left f₆ (f₃₀ ++ (fi ++ fe)) s)))
-      (kept (array_fixed (get_or arrays y 0)) 30 p (nil_left f₃₀ (fi ++ fe) s₀)) z.0 z.1 public w.0 w.1
+      go (leb-false (length arrays) y (kept (leb (length arrays) y) 6 p (nil_left f₆ (fi ++ fe) s))) z.0 z.1 public w.0 w.1
       (kept ((secret_in types arrays e || (pc || rc)) && not (array_secret (get_or arrays y 0))) 9 p (nil_left f₉ (li ++ (lx ++ lₑ)) l))
     where
-      go : y < length arrays → array_fixed (get_or arrays y 0) ≡ false → GoodExpression types arrays marks i → sort_in types i ≡ word_sort → secret_in types arrays i ≡ false
+      go : y < length arrays → GoodExpression types arrays marks i → sort_in types i ≡ word_sort → secret_in types arrays i ≡ false
           → GoodExpression types arrays marks e → sort_in types e ≡ word_sort → ((secret_in types arrays e || (pc || rc)) && not (array_secret (get_or arrays y 0))) ≡ false
           → Good' here marks' (one (store y (moved first i) (masked (pc || rc) (act pc arm rc (rv + 1)) (moved first e) (cell 0 y (moved first i)))))
-      go h free g q public g' q' flow =
-          good_step (good_store h free (good_moved here m g)
+      go h g q public g' q' flow =
+          good_step (good_store h (good_moved here m g)
           (masked_good here marks marks' m (pc || rc) (act pc arm rc (rv + 1)) (moved first e) (cell 0 y (moved first i))
           (act_good here marks marks' m pc arm rc a (keeps here (store y i e) pc rc d)) (good_moved here m g')
           (good_cell h (good_moved here m g) (sort_moved here g ∙ q) (secret_moved here g ∙ public)) (sym (sort_moved here g' ∙ q')))

@@ -4,13 +4,10 @@ use mathlib.Core.Bool.{Bool, true, false, not}
 use mathlib.Core.List.{List, [], ◌∷◌, ◌++◌, append_assoc}
 use Prim.Native.Nat.{ℕ, suc, ◌+◌, ◌-◌, ◌≤◌, ◌<◌}
 use native.Mathlib.Omega.{arith}
-use borrow.Author.Tests.{not-true, not-false, le-leb, lt-leb}
-use lib.Dec.{leb}
-use Rattle.definitions.specs.Choice.{pick}
-use Rattle.laws.specs.ReadImages.{open_array}
+use borrow.Author.Tests.{not-true, not-false}
 use lib.ListN.{length, get_or, set, length-append}
-use Rattle.definitions.specs.Image.{array_length, table_length, array_word, cell_count}
-use Rattle.definitions.specs.Reading.{Parse, got, refused, and_then, read_array, read_arrays}
+use Rattle.definitions.specs.Image.{array_length, array_word, cell_count}
+use Rattle.definitions.specs.Reading.{Parse, got, refused, and_then, on_word, read_arrays}
 use Rattle.laws.specs.Parses.{got_same}
 use Rattle.laws.specs.WordTests.{array_limits}
 use Rattle.tables.specs.Table.{table_of}
@@ -18,7 +15,7 @@ use Rattle.tables.specs.Filling.{table_array}
 use Rattle.reader.specs.declared.Read.{Read}
 use Rattle.reader.specs.declared.Read.TheVariants.{At, Refused}
 use Rattle.reader.specs.Answers.{answer, word_at}
-use Rattle.reader.specs.AnswerLaws.{impossible, refused_of, answer_got, answer_refused}
+use Rattle.reader.specs.AnswerLaws.{refused_of, answer_got, answer_refused}
 use Rattle.reader.specs.Left.{ArraysLeft}
 use Rattle.reader.proofs.Answers.{one_more, answer_last, word_of, word_end, word_bad, word_good, not_got, append_none}
 
@@ -48,13 +45,10 @@ none_here : (cells : ℕ) (image : List ℕ) (at n : ℕ) → n ≡ 0 → read_a
 unfolding read_arrays
 none_here cells image at n e = rw e
 
--- what is read behind an array
-behind : ℕ → ℕ → List ℕ → ℕ → ℕ → Parse (List ℕ)
-behind n cells image w m = and_then (read_arrays n (cells + array_length w) image m) (λ ws o. got (w ∷ ws) o)
-
 one_here : (cells : ℕ) (image : List ℕ) (at n k : ℕ) → k ≡ suc n
-    → read_arrays k cells image at ≡ and_then (read_array cells image at) (λ w m. behind n cells image w m)
-unfolding read_arrays behind
+    → read_arrays k cells image at
+    ≡ on_word image at (λ w. array_word cells w) (λ w. and_then (read_arrays n (cells + array_length w) image (at + 1)) (λ ws m. got (w ∷ ws) m))
+unfolding read_arrays
 one_here cells image at n k e = rw e
 
 cells_more : (ws : List ℕ) (w : ℕ) → cell_count (ws ++ (w ∷ [])) ≡ cell_count ws + array_length w
@@ -83,51 +77,51 @@ module _ (count : ℕ) (image : List ℕ) (first : ℕ) (table : List ℕ) (k ce
   refused_left table' r m q d e ws n g =
       not_got (read_arrays count 0 image first) m q ws n (refused_of 0 (read_arrays count 0 image first) r m q e d) g
 
-  module _ (h : k < count) (r : Read) (e : r ≡ answer (get_or image at 0) (read_array cells image at)) where
-    turn : read_arrays (count - k) cells image at ≡ and_then (read_array cells image at) (λ w m. behind (count - (k + 1)) cells image w m)
+  module _ (h : k < count) (r : Read) (e : r ≡ word_at image at) where
+    rest : ℕ → Parse (List ℕ)
+    rest w = and_then (read_arrays (count - (k + 1)) (cells + array_length w) image (at + 1)) (λ ws m. got (w ∷ ws) m)
+
+    turn : read_arrays (count - k) cells image at ≡ on_word image at (λ w. array_word cells w) (λ w. rest w)
+    unfolding rest
     turn = one_here cells image at (count - (k + 1)) (count - k) (one_more count k h)
 
-    module _ (m q : ℕ) (d : r ≡ Refused m q) where
-      refused_here : read_arrays (count - k) cells image at ≡ refused m q
-      refused_here =
-          turn ∙ ap (λ (x : Parse ℕ). and_then x (λ w o. behind (count - (k + 1)) cells image w o))
-          (refused_of (get_or image at 0) (read_array cells image at) r m q e d)
+    shown_turn : (x : Read) → x ≡ answer 0 (on_word image at (λ w. array_word cells w) (λ w. rest w)) → x ≡ answer 0 (read_arrays count 0 image first)
+    shown_turn x q = q ∙ ap (λ z. answer 0 z) (sym turn) ∙ s.shown
 
+    module _ (m q : ℕ) (d : r ≡ Refused m q) where
       pub arrays_end : r ≡ answer 0 (read_arrays count 0 image first)
-      arrays_end = d ∙ answer_refused 0 (read_arrays (count - k) cells image at) m q refused_here ∙ s.shown
+      arrays_end = shown_turn r (word_end image at (λ w. array_word cells w) (λ w. rest w) r e 0 m q d)
 
       pub arrays_end_left : (table' : List ℕ) → ArraysLeft (read_arrays count 0 image first) table'
       arrays_end_left table' = refused_left table' r m q d arrays_end
 
-    module _ (w next : ℕ) (d : r ≡ At w next) where
-      -- the word that is answered is the one that was read
-      read_here : read_array cells image at ≡ got w next
-      unfolding answer
-      read_here = go (read_array cells image at) refl (sym e ∙ d)
-        where
-          go : (x : Parse ℕ) → read_array cells image at ≡ x → answer (get_or image at 0) x ≡ At w next → x ≡ got w next
-          go (got v n) f g =
-              let same : get_or image at 0 ≡ v = (open_array image cells at v n f).same in
-              let word : get_or image at 0 ≡ w = cc in
-              let place : n ≡ next = cc in
-              rw (sym same ∙ word, place)
-          go (refused m q) f g = impossible (sym g)
+    module _ (w next : ℕ) (d : r ≡ At w next) (g : Bool) (hg : g ≡ array_word cells w) where
+      module _ (t : not g ≡ true) where
+        pub arrays_bad : Refused 2 at ≡ answer 0 (read_arrays count 0 image first)
+        arrays_bad = shown_turn (Refused 2 at) (word_bad image at (λ w. array_word cells w) (λ w. rest w) r e w next d 0 (sym hg ∙ not-true g t))
 
-      module _ (c : ℕ) (hc : c ≡ array_length w) where
+        pub arrays_bad_left : (table' : List ℕ) → ArraysLeft (read_arrays count 0 image first) table'
+        arrays_bad_left table' = refused_left table' (Refused 2 at) 2 at refl arrays_bad
+
+      module _ (t : not g ≡ false) (c : ℕ) (hc : c ≡ array_length w) where
         pub arrays_cells : cells + c ≤ 1024
-        arrays_cells = let l = (array_limits cells w (open_array image cells at w next read_here).tested).4 in omega arith
+        arrays_cells = let l = (array_limits cells w (sym hg ∙ not-false g t)).4 in omega arith
+
+        good : read_arrays (count - k) cells image at ≡ rest w
+        good = turn ∙ word_good image at (λ w. array_word cells w) (λ w. rest w) r e w next d (sym hg ∙ not-false g t)
 
         pub arrays_more : (table' : List ℕ) → table' ≡ set (set (set table k w) (16 + k) cells) 32 (k + 1)
             → Arrays count image first table' (k + 1) (cells + c) next
-        unfolding behind
+        unfolding rest
         arrays_more table' st =
             let p = s.passed in
             let z = s.sum in
             let v = cells_more s.read w in
+            let next-is : next ≡ at + 1 = (word_of image at r w next e d).2 in
             let more : cells + c ≡ cells + array_length w = omega arith in
             let inner : read_arrays (count - k) cells image at
             ≡ and_then (read_arrays (count - (k + 1)) (cells + c) image next) (λ ws m. got (w ∷ ws) m)
-            = turn ∙ ap (λ (x : Parse ℕ). and_then x (λ w o. behind (count - (k + 1)) cells image w o)) read_here ∙ rw more in
+            = good ∙ rw (next-is, more) in
             record {
               read = s.read ++ (w ∷ []);
               passed = length-append s.read (w ∷ []) ∙ ap (λ z. z + 1) s.passed;
@@ -141,43 +135,3 @@ module _ (count : ℕ) (image : List ℕ) (first : ℕ) (table : List ℕ) (k ce
                   sym (answer_last 0 (read_arrays (count - (k + 1)) (cells + c) image next) (λ us. w ∷ us))
                   ∙ sym (ap (λ z. answer 0 z) inner) ∙ s.shown;
             }
-
--- ---- one array
-
--- an array's word with the place behind its table
-tabled : List ℕ → ℕ → ℕ → Parse ℕ
-tabled image at w = pick (leb (at + 1 + table_length w) (length image)) (got w (at + 1 + table_length w)) (refused 3 (length image))
-
-module _ (cells : ℕ) (image : List ℕ) (at : ℕ) (r : Read) (e : r ≡ word_at image at) where
-  pub array_end : (m q : ℕ) → r ≡ Refused m q → r ≡ answer (get_or image at 0) (read_array cells image at)
-  unfolding read_array tabled
-  array_end m q d = word_end image at (λ w. array_word cells w) (tabled image at) r e (get_or image at 0) m q d
-
-  module _ (w next : ℕ) (d : r ≡ At w next) where
-    pub array_inside : next ≤ length image
-    array_inside = let (h, a, b) = word_of image at r w next e d in omega arith
-
-    module _ (g : Bool) (hg : g ≡ array_word cells w) where
-      pub array_bad : not g ≡ true → Refused 2 at ≡ answer (get_or image at 0) (read_array cells image at)
-      unfolding read_array tabled
-      array_bad t = word_bad image at (λ w. array_word cells w) (tabled image at) r e w next d (get_or image at 0) (sym hg ∙ not-true g t)
-
-      module _ (t : not g ≡ false) (v : ℕ) (hv : v ≡ table_length w) (n : ℕ) (hn : n ≡ v) where
-        good : read_array cells image at ≡ tabled image at w
-        unfolding read_array tabled
-        good = word_good image at (λ w. array_word cells w) (tabled image at) r e w next d (sym hg ∙ not-false g t)
-
-        pub array_short : length image - next < n → Refused 3 (length image) ≡ answer (get_or image at 0) (read_array cells image at)
-        unfolding tabled
-        array_short l =
-            let (h, a, b) = word_of image at r w next e d in
-            answer_refused (get_or image at 0) (read_array cells image at) 3 (length image)
-            (good ∙ rw (lt-leb (at + 1 + table_length w) (length image) (omega arith)))
-
-        pub array_whole : n ≤ length image - next → At w (next + n) ≡ answer (get_or image at 0) (read_array cells image at)
-        unfolding tabled
-        array_whole l =
-            let (h, a, b) = word_of image at r w next e d in
-            let z : next + n ≡ at + 1 + table_length w = omega arith in
-            rw (a, z) (answer_got (get_or image at 0) (read_array cells image at) w (at + 1 + table_length w)
-            (good ∙ rw (le-leb (at + 1 + table_length w) (length image) (omega arith))))

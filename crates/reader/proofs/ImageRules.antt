@@ -11,7 +11,7 @@ use lib.Seq.{get_or-set_other}
 use Rattle.definitions.specs.Choice.{pick}
 use Rattle.definitions.specs.Image.{header_word, form_of, arrays_of, procedures_of, largest_image, parameters_of, locals_of}
 use Rattle.definitions.specs.Image.{Procedure, Image}
-use Rattle.definitions.specs.Reading.{Parse, got, refused, and_then, read_arrays, read_procedure, read_procedures, read_rest, tables_at}
+use Rattle.definitions.specs.Reading.{Parse, got, refused, and_then, read_arrays, read_procedure, read_procedures, read_rest}
 use Rattle.definitions.specs.Reading.{read_image}
 use Rattle.laws.specs.Tests.{and_right}
 use Rattle.laws.specs.Parses.{got_same}
@@ -193,11 +193,11 @@ module _ (image : List ℕ) (w : ℕ) (h : header_word w ≡ true) (long : lengt
     after_arrays z =
         and_then z
         (λ ws n. and_then (read_procedures (procedures_of w) (form_of w) (replicate 32 0) 0 image n)
-        (λ ps m. pick (eqb m (length image)) (got (record { form = form_of w; arrays = ws; tables = tables_at ws image 1; procedures = ps }) m) (refused 4 m)))
+        (λ ps m. pick (eqb m (length image)) (got (record { form = form_of w; arrays = ws; procedures = ps }) m) (refused 4 m)))
 
     after_procedures : List ℕ → Parse (List Procedure) → Parse Image
     after_procedures ws z =
-        and_then z (λ ps m. pick (eqb m (length image)) (got (record { form = form_of w; arrays = ws; tables = tables_at ws image 1; procedures = ps }) m) (refused 4 m))
+        and_then z (λ ps m. pick (eqb m (length image)) (got (record { form = form_of w; arrays = ws; procedures = ps }) m) (refused 4 m))
 
     rest_shape : read_rest w image ≡ after_arrays (read_arrays a 0 image 1)
     unfolding read_rest after_arrays
@@ -266,7 +266,7 @@ module _ (image : List ℕ) (w : ℕ) (h : header_word w ≡ true) (long : lengt
         module _ (u m : ℕ) (ds : s ≡ At u m) where
           procedures_read : (ws : List ℕ) × (ps : List Procedure) × (arrays_in table ≡ ws)
               × (read_rest w image
-              ≡ pick (eqb m (length image)) (got (record { form = form_of w; arrays = ws; tables = tables_at ws image 1; procedures = ps }) m) (refused 4 m))
+              ≡ pick (eqb m (length image)) (got (record { form = form_of w; arrays = ws; procedures = ps }) m) (refused 4 m))
               × (read_procedures p f (params_in table) 0 image n ≡ got ps m)
           unfolding after_procedures
           procedures_read =
@@ -278,7 +278,7 @@ module _ (image : List ℕ) (w : ℕ) (h : header_word w ≡ true) (long : lengt
             spare_refused : read_rest w image ≡ refused 4 m
             spare_refused =
                 let (ws, ps, i, x, g) = procedures_read in
-                x ∙ ap (λ b. pick b (got (record { form = form_of w; arrays = ws; tables = tables_at ws image 1; procedures = ps }) m) (refused 4 m)) (ne_eqb m (length image) spare)
+                x ∙ ap (λ b. pick b (got (record { form = form_of w; arrays = ws; procedures = ps }) m) (refused 4 m)) (ne_eqb m (length image) spare)
 
             pub rest_spare : Refused 4 m ≡ answer w (read_rest w image)
             rest_spare = answer_refused w (read_rest w image) 4 m spare_refused
@@ -288,31 +288,31 @@ module _ (image : List ℕ) (w : ℕ) (h : header_word w ≡ true) (long : lengt
 
           module _ (all : m ≡ length image) where
             rest_read : (ws : List ℕ) × (ps : List Procedure) × (arrays_in table ≡ ws)
-                × (read_rest w image ≡ got (record { form = form_of w; arrays = ws; tables = tables_at ws image 1; procedures = ps }) m)
+                × (read_rest w image ≡ got (record { form = form_of w; arrays = ws; procedures = ps }) m)
                 × (read_procedures p f (params_in table) 0 image n ≡ got ps m)
             rest_read =
                 let (ws, ps, i, x, g) = procedures_read in (
                   ws,
                   ps,
                   i,
-                  x ∙ ap (λ b. pick b (got (record { form = form_of w; arrays = ws; tables = tables_at ws image 1; procedures = ps }) m) (refused 4 m)) (eq-eqb m (length image) all),
+                  x ∙ ap (λ b. pick b (got (record { form = form_of w; arrays = ws; procedures = ps }) m) (refused 4 m)) (eq-eqb m (length image) all),
                   g,
                 )
 
             pub rest_whole : At w m ≡ answer w (read_rest w image)
             rest_whole =
                 let (ws, ps, i, x, g) = rest_read in
-                answer_got w (read_rest w image) (record { form = form_of w; arrays = ws; tables = tables_at ws image 1; procedures = ps }) m x
+                answer_got w (read_rest w image) (record { form = form_of w; arrays = ws; procedures = ps }) m x
 
             pub rest_tables : ImageLeft (read_rest w image) image table' ends'
             unfolding ImageLeft ProceduresLeft
             rest_tables tree k g =
                 let (ws, ps, i, x, y) = rest_read in
-                let (same, _) = got_same (read_rest w image) (record { form = form_of w; arrays = ws; tables = tables_at ws image 1; procedures = ps }) tree m k x g in
+                let (same, _) = got_same (read_rest w image) (record { form = form_of w; arrays = ws; procedures = ps }) tree m k x g in
                 let (filled, right) = fs ps m y in
                 go ws ps tree same (filled ∙ ap (λ (z : List ℕ). table_of z ps) i) right
               where
-                go : (ws : List ℕ) (ps : List Procedure) (tree : Image) → record { form = form_of w; arrays = ws; tables = tables_at ws image 1; procedures = ps } ≡ tree
+                go : (ws : List ℕ) (ps : List Procedure) (tree : Image) → record { form = form_of w; arrays = ws; procedures = ps } ≡ tree
                     → table' ≡ table_of ws ps → BlockEnds image (params_in table') ends' → Tables image tree table' ends'
                 go ws ps tree same filled right = rw (← same) (record { filled = filled; block_ends = right })
 

@@ -1,6 +1,6 @@
 // Reading type words, procedures and array words.
 ghost use Rattle.std.specs.Prelude.{◌≡◌, ◌≤◌, ◌<◌, [], length, get_or};
-ghost use Rattle.definitions.specs.Reading.{read_types, read_procedure, read_array, read_arrays};
+ghost use Rattle.definitions.specs.Reading.{read_types, read_procedure, read_arrays};
 ghost use Rattle.tables.specs.Table.{table_of, params_in};
 ghost use Rattle.reader.specs.Answers.{answer, body_answer};
 ghost use Rattle.reader.specs.Ends.{Sound};
@@ -10,9 +10,8 @@ use super::Read;
 use super::statements::read_block;
 use super::words::word;
 use image_words::limits::largest_level;
-use image_words::lists::wide;
 use image_words::valid::{array_word, procedure_word, type_word};
-use image_words::{array_length, table_length, variables};
+use image_words::{array_length, variables};
 use tables::SIZE;
 
 // `count` type words; there need be none, so that the word answered is 0.
@@ -90,25 +89,6 @@ pub fn read_procedure(
     read_body(image, form, table, me, ends, w, first)
 }
 
-// An array's word, with the place behind its table: the words of a table may be any.
-fn read_array(image: &[u32], cells: u32, at: usize) -> Read
-    requires { cells ≤ 1024 }
-    ensures { result ≡ answer (get_or image.now at 0) (read_array cells image.now at) }
-{
-    let r = word(image, at);
-    let Read::At(w, next) = r else {
-        return r;
-    };
-    if !array_word(cells, w) {
-        return Read::Refused(2, at);
-    }
-    let table = wide(table_length(w));
-    if image.len() - next < table {
-        return Read::Refused(3, image.len());
-    }
-    Read::At(w, next + table)
-}
-
 // `count` array words, which go into the table; there need be none, so that the word answered is 0.
 pub fn read_arrays(image: &[u32], count: u32, at: usize, table: &mut [u32; SIZE]) -> Read
     requires { (count ≤ 16) × (table.old ≡ table_of [] []) }
@@ -118,10 +98,13 @@ pub fn read_arrays(image: &[u32], count: u32, at: usize, table: &mut [u32; SIZE]
     let mut cells: u32 = 0;
     let mut a = at;
     while k < count {
-        let r = read_array(image, cells, a);
+        let r = word(image, a);
         let Read::At(w, next) = r else {
             return r;
         };
+        if !array_word(cells, w) {
+            return Read::Refused(2, a);
+        }
         tables::add_array(table, k, w, cells);
         cells += array_length(w);
         a = next;

@@ -23,7 +23,7 @@ readied (unready k p) = Unready k p
 pub readied_cells : (x : Readiness) (r : Ready) (n : ℕ) → r ≡ readied x → r ≡ Cells n → (tree : Image) × (x ≡ ready tree) × (n ≡ cell_count tree.arrays)
 unfolding readied
 readied_cells (ready tree) r n e f = (tree, refl, cc)
-readied_cells (unready k p) r n e f = (record { form = 0; arrays = []; tables = []; procedures = [] }, cc, cc)
+readied_cells (unready k p) r n e f = (record { form = 0; arrays = []; procedures = [] }, cc, cc)
 
 pub readied_not : (x : Readiness) (r : Ready) (k p : ℕ) → r ≡ readied x → r ≡ Unready k p → x ≡ unready k p
 unfolding readied

@@ -1,20 +1,18 @@
 -- The definitions' requests on lent bytes, from what they do on the image's own cells. Assumes nothing.
 use Rattle.std.specs.Prelude.{◌≡◌, ℕ, ◌*◌, ◌≤◌, length, take}
-use Rattle.std.proofs.Math.Path.{sym, ap}
-use Rattle.std.proofs.Common.{◌∙◌, arith, take-append-drop, length-take-le}
+use Rattle.std.proofs.Common.{sym, ◌∙◌, arith, take-append-drop, length-take-le}
+use Rattle.std.proofs.Math.Path.{ap}
 use mathlib.Core.List.{List, ◌++◌}
 use Rattle.std.proofs.Math.ListN.{drop}
+use Rattle.std.proofs.lemmas.List.{length-replicate}
 use Rattle.definitions.specs.Bytes.{Bytes, words_of, bytes_of, lent}
-use Rattle.definitions.specs.Image.{cell_count, table_count, Image}
+use Rattle.definitions.specs.Image.{cell_count, Image}
 use Rattle.definitions.specs.Requests.{ready, unready, ready_to_load, ready_to_serve, Served, Called, served, served_call}
-use Rattle.definitions.specs.Requests.{carried_out, started, load, clear, poke, peek, call, called_on}
+use Rattle.definitions.specs.Requests.{carried_out, zeroed, load, clear, poke, peek, call, called_on}
 use Rattle.definitions.specs.Host.{whole_words, on_cells, load_bytes, clear_bytes, poke_bytes, peek_bytes, call_bytes}
 use Rattle.definitions.specs.declared.Answer.{Answer}
 use Rattle.definitions.specs.declared.Answer.TheVariants.{Refused}
 use Rattle.laws.specs.WordsOfBytes.{lent_front, length_words_of, lent_words_of}
-use Rattle.laws.specs.Ready.{ready_read, serve_read}
-use Rattle.laws.specs.ReadImages.{open_image}
-use Rattle.laws.specs.Tables.{start_length}
 use Rattle.requests.specs.OwnCells.{clear_on, poke_on, peek_on}
 use Rattle.requests.specs.SpareCells.{behind, behind_call, clear_spare, poke_spare, peek_spare, poke_long}
 use Rattle.requests.specs.SpareCells.{peek_long, Spares, call_spare}
@@ -73,28 +71,23 @@ module _ (cells : List ℕ) (bytes : Bytes cells) where
   -- ---- a request on an image that is ready
 
   module _ (image : List ℕ) (tree : Image) (n : ℕ) (own : n ≡ cell_count tree.arrays) (h : 4 * n ≤ length cells) where
-    cleared : length tree.tables ≡ table_count tree.arrays
-        → on_cells cells (carried_out 0, started tree (words_of cells)) ≡ afterwards cells n (clear_on tree.arrays tree.tables)
+    cleared : on_cells cells (carried_out 0, zeroed tree (words_of cells)) ≡ afterwards cells n (clear_on n)
     unfolding clear_on
-    cleared t =
-        on_front n (carried_out 0, started tree (words_of cells)) (clear_on tree.arrays tree.tables)
-        (ap (λ (x : List ℕ). (carried_out 0, started tree x)) (split n h)
-        ∙ clear_spare tree (take n (words_of cells)) (drop n (words_of cells)) (own_long n h ∙ own))
-        (start_length tree.arrays tree.tables t ∙ sym own) h
+    cleared =
+        on_front n (carried_out 0, zeroed tree (words_of cells)) (clear_on n)
+        (ap (λ (x : List ℕ). (carried_out 0, zeroed tree x)) (split n h)
+        ∙ clear_spare tree (take n (words_of cells)) (drop n (words_of cells)) (own_long n h ∙ own)
+        ∙ ap (λ (m : ℕ). behind (drop n (words_of cells)) (clear_on m)) (own_long n h))
+        (length-replicate n 0) h
 
-    pub load_ready : ready_to_load (whole_words image) (words_of image) (length (words_of cells)) ≡ ready tree
-        → load_bytes image cells ≡ afterwards cells n (clear_on tree.arrays tree.tables)
+    pub load_ready : ready_to_load (whole_words image) (words_of image) (length (words_of cells)) ≡ ready tree → load_bytes image cells ≡ afterwards cells n (clear_on n)
     unfolding load_bytes load served
-    load_ready e =
-        let (m, r, enough) = ready_read (whole_words image) (words_of image) (length (words_of cells)) tree e in
-        rw e (cleared (open_image (whole_words image) (words_of image) tree m r).fits.tables_fit)
+    load_ready e = rw e cleared
 
     module _ (e : ready_to_serve (whole_words image) (words_of image) (length (words_of cells)) ≡ ready tree) where
-      pub clear_ready : clear_bytes image cells ≡ afterwards cells n (clear_on tree.arrays tree.tables)
+      pub clear_ready : clear_bytes image cells ≡ afterwards cells n (clear_on n)
       unfolding clear_bytes clear served
-      clear_ready =
-          let (m, r, enough) = serve_read (whole_words image) (words_of image) (length (words_of cells)) tree e in
-          rw e (cleared (open_image (whole_words image) (words_of image) tree m r).fits.tables_fit)
+      clear_ready = rw e cleared
 
       pub poke_ready : (a i v : ℕ) → poke_bytes image cells a i v ≡ afterwards cells n (poke_on tree.arrays (take n (words_of cells)) a i v)
       unfolding poke_bytes poke served poke_on

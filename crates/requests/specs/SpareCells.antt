@@ -7,9 +7,9 @@ use Rattle.std.proofs.Math.Bool.{true, false}
 use Rattle.std.proofs.Math.ListN.{length, set, length-set, get_or-append}
 use Rattle.std.proofs.lemmas.List.{set-append_left}
 use Rattle.definitions.specs.Choice.{pick}
-use Rattle.definitions.specs.Image.{array_fixed, cell_count, base_of, Procedure, Image, procedure_at}
+use Rattle.definitions.specs.Image.{cell_count, base_of, Procedure, Image, procedure_at}
 use Rattle.definitions.specs.Running.{trace_words, Ran, Given}
-use Rattle.definitions.specs.Requests.{Served, Called, carried_out, started, argument_values, ended, called_on}
+use Rattle.definitions.specs.Requests.{Served, Called, carried_out, zeroed, argument_values, ended, called_on}
 use Rattle.definitions.specs.declared.Answer.TheVariants.{Refused}
 use Rattle.laws.specs.Cells.{has_within}
 use Rattle.requests.specs.Cells.{has_cell_in}
@@ -24,22 +24,21 @@ abbrev pub behind_call : List ℕ → Called → Called
 behind_call rest s = (s.0, s.1 ++ rest, s.2)
 
 pub clear_spare : (image : Image) (cs rest : List ℕ) → length cs ≡ cell_count image.arrays
-    → ◌≡◌ {A = Served} (carried_out 0, started image (cs ++ rest)) (behind rest (clear_on image.arrays image.tables))
+    → ◌≡◌ {A = Served} (carried_out 0, zeroed image (cs ++ rest)) (behind rest (clear_on (length cs)))
 unfolding clear_on
-clear_spare image cs rest h = rw (drop_at cs rest (cell_count image.arrays) h)
+clear_spare image cs rest h = rw (h, drop_at cs rest (cell_count image.arrays) h)
 
 module _ (arrays cs rest : List ℕ) (h : length cs ≡ cell_count arrays) (a i : ℕ) where
   pub poke_spare : (v : ℕ) → poke_on arrays (cs ++ rest) a i v ≡ behind rest (poke_on arrays cs a i v)
   unfolding poke_on
-  poke_spare v = go (has_cell_in arrays a i) refl (array_fixed (get_or arrays a 0))
+  poke_spare v = go (has_cell_in arrays a i) refl
     where
-      go : (b : Bool) → has_cell_in arrays a i ≡ b → (f : Bool)
-          → ◌≡◌ {A = Served} (pick b (pick f (Refused 30 0, cs ++ rest) (carried_out 0, set (cs ++ rest) (base_of arrays a + i) v)) (Refused 17 0, cs ++ rest))
-          (behind rest (pick b (pick f (Refused 30 0, cs) (carried_out 0, set cs (base_of arrays a + i) v)) (Refused 17 0, cs)))
-      go true e true = refl
-      go true e false =
+      go : (b : Bool) → has_cell_in arrays a i ≡ b
+          → ◌≡◌ {A = Served} (pick b (carried_out 0, set (cs ++ rest) (base_of arrays a + i) v) (Refused 17 0, cs ++ rest))
+          (behind rest (pick b (carried_out 0, set cs (base_of arrays a + i) v) (Refused 17 0, cs)))
+      go true e =
           let s : base_of arrays a + i < length cs = (let r = has_within arrays a i e in omega arith) in rw (set-append_left cs rest (base_of arrays a + i) v s)
-      go false e f = refl
+      go false e = refl
 
   pub peek_spare : peek_on arrays (cs ++ rest) a i ≡ behind rest (peek_on arrays cs a i)
   unfolding peek_on
@@ -55,13 +54,11 @@ module _ (arrays cs rest : List ℕ) (h : length cs ≡ cell_count arrays) (a i 
   -- a request keeps the number of cells
   pub poke_long : (v : ℕ) → length (poke_on arrays cs a i v).1 ≡ cell_count arrays
   unfolding poke_on
-  poke_long v = go (has_cell_in arrays a i) (array_fixed (get_or arrays a 0))
+  poke_long v = go (has_cell_in arrays a i)
     where
-      go : (b f : Bool)
-          → length (pick {A = Served} b (pick f (Refused 30 0, cs) (carried_out 0, set cs (base_of arrays a + i) v)) (Refused 17 0, cs)).1 ≡ cell_count arrays
-      go true true = h
-      go true false = length-set cs (base_of arrays a + i) v ∙ h
-      go false f = h
+      go : (b : Bool) → length (pick {A = Served} b (carried_out 0, set cs (base_of arrays a + i) v) (Refused 17 0, cs)).1 ≡ cell_count arrays
+      go true = length-set cs (base_of arrays a + i) v ∙ h
+      go false = h
 
   pub peek_long : length (peek_on arrays cs a i).1 ≡ cell_count arrays
   unfolding peek_on

@@ -84,15 +84,14 @@ reading_number whole words k p e = go (refused_as (rw e at (reads_image whole wo
     go (spare_word h) = omega arith
     go (too_deep h) = omega arith
 
-pub among_all : {P : Fault → Type 0} {f : Fault} {fs : List Fault} → All P fs → Among f fs → P f
+among_all : {P : Fault → Type 0} {f : Fault} {fs : List Fault} → All P fs → Among f fs → P f
 among_all (all_more h x) here = h
 among_all (all_more h x) (there m) = among_all x m
 
-pub sort_number : (tree : Image) (f : Fault) → Among f (image_sort_faults tree) → ((6 ≤ f.number) × (f.number ≤ 8)) ⊎ (f.number ≡ 30)
+pub sort_number : (tree : Image) (f : Fault) → Among f (image_sort_faults tree) → (6 ≤ f.number) × (f.number ≤ 8)
 sort_number tree f m =
-    among_all {P = λ g. ((6 ≤ g.number) × (g.number ≤ 8)) ⊎ (g.number ≡ 30)}
-    (all_sort_faults (λ p r. inl (omega arith)) (λ p r. inl (omega arith)) (λ p r. inl (omega arith)) (λ p r. inr refl) tree
-    (anywhere_procedures tree.procedures)) m
+    among_all {P = λ g. (6 ≤ g.number) × (g.number ≤ 8)}
+    (all_sort_faults (λ p r. omega arith) (λ p r. omega arith) (λ p r. omega arith) tree (anywhere_procedures tree.procedures)) m
 
 pub label_number : (tree : Image) (f : Fault) → Among f (image_label_faults tree) → (9 ≤ f.number) × (f.number ≤ 13)
 label_number tree f m =
@@ -159,11 +158,7 @@ none_listed (f ∷ fs) n e = absurd (least_found (f ∷ fs) f here (n f here) e)
 -- the lowest fault of a tree, by its groups
 module _ (tree : Image) where
   sort_numbered : (f : Fault) → Among f (image_sort_faults tree) → f.number ≡ 0 → ⊥
-  sort_numbered f m e = go (sort_number tree f m)
-    where
-      go : ((6 ≤ f.number) × (f.number ≤ 8)) ⊎ (f.number ≡ 30) → ⊥
-      go (inl h) = omega arith
-      go (inr h) = omega arith
+  sort_numbered f m e = let z = sort_number tree f m in omega arith
 
   label_numbered : (f : Fault) → Among f (image_label_faults tree) → f.number ≡ 0 → ⊥
   label_numbered f m e = let z = label_number tree f m in omega arith

@@ -1,6 +1,6 @@
 -- Property 1, the requests of a host: which are refused, with which number, in which order, and what each of the others gives. An image is spoken of
 -- by a tree that its words spell (Accepted). Assumes nothing.
-use Rattle.std.specs.Prelude.{ℕ, zero, suc, ◌+◌, ◌*◌, ◌/◌, ◌%◌, ◌^◌, ◌≤◌, ◌<◌, Bool, ◌&&◌, ltb, leb, set}
+use Rattle.std.specs.Prelude.{ℕ, zero, suc, ◌+◌, ◌*◌, ◌/◌, ◌%◌, ◌^◌, ◌≤◌, ◌<◌, Bool, ◌&&◌, ltb, leb, set, replicate}
 use Rattle.std.proofs.Math.Bool.{true, false}
 use mathlib.Core.List.{List, [], ◌∷◌, ◌++◌}
 use Rattle.std.proofs.Common.{inl, inr, ◌∙◌, drop_at}
@@ -9,27 +9,27 @@ use native.Mathlib.Omega.{arith}
 use borrow.Author.Tests.{eqb-true, eqb-false, ltb-true, ltb-false, leb-true, leb-false, le-leb, lt-leb, lt-ltb, le-ltb, eq-eqb, ne_eqb}
 use Rattle.std.proofs.Math.Dec.{eqb}
 use Rattle.std.proofs.Math.ListN.{length, drop}
+use Rattle.std.proofs.lemmas.List.{length-replicate}
 use Rattle.definitions.specs.Choice.{pick}
 use Rattle.definitions.specs.declared.Answer.{Answer}
 use Rattle.definitions.specs.declared.Answer.TheVariants.{Done, Stopped, Refused}
 use Rattle.definitions.specs.declared.Checked.{Checked}
 use Rattle.definitions.specs.declared.Checked.TheVariants.{Accepted, Refused as CheckRefused}
-use Rattle.definitions.specs.Image.{Procedure, Image, cell_count, base_of, start_cells, procedure_at}
+use Rattle.definitions.specs.Image.{Procedure, Image, cell_count, base_of, procedure_at}
 use Rattle.definitions.specs.Encoding.{image_words}
 use Rattle.definitions.specs.Bytes.{Bytes, joined, word_at, words_of, bytes_of, lent}
-use Rattle.definitions.specs.Requests.{ready, unready, with_cells, ready_to_load, ready_to_serve, Served, served, started, has_cell, fixed_array}
+use Rattle.definitions.specs.Requests.{ready, unready, with_cells, ready_to_load, ready_to_serve, Served, served, has_cell}
 use Rattle.definitions.specs.Requests.{load, clear, poke, peek, Called, ended, called_on, served_call, call}
 use Rattle.definitions.specs.Running.{Ran, on, halt, Given, gave}
 use Rattle.definitions.specs.Host.{whole_words, load_bytes, clear_bytes, poke_bytes, peek_bytes, call_bytes, preview_bytes, check_bytes}
 use Rattle.statements.specs.Statements.{Iff, AdmissibleBytes, NotLoaded, bad_image, few_cells, Loadable, NotReady, empty_image}
-use Rattle.statements.specs.Statements.{as_by_load, NoCell, unready_for_cell, cell_missing, WithCell, NotPoked, no_cell, fixed_cell_lem, Pokable, NotCalled}
+use Rattle.statements.specs.Statements.{as_by_load, NoCell, unready_for_cell, cell_missing, WithCell, NotCalled}
 use Rattle.statements.specs.Statements.{unready_for_call, procedure_missing, other_count, Callable, RefusedOr, cleared}
 use Rattle.statements.specs.Statements.{stored, ResultOrStop, with_result, with_stop, recorded_count}
 use Rattle.laws.specs.WordsOfBytes.{lent_front, length_words_of, get_d_words_of, length_bytes_of, lent_words_of}
 use Rattle.laws.specs.Previews.{previewed_answer, preview_is_call_on_a_copy}
 use Rattle.laws.specs.Ready.{ready_refused}
 use Rattle.laws.specs.Cells.{has_within}
-use Rattle.laws.specs.Tables.{start_length}
 use Rattle.readback.specs.Like.{LikeImage, like_procedure_count}
 use Rattle.readback.specs.Accepted.{like_at}
 use Rattle.results.specs.Answers.{Stop, budget_spent_lem, trace_full_lem, beyond_array, divisor_0, Calls, ends, stops, call_refuses}
@@ -72,18 +72,6 @@ module _ (image cells : List ℕ) where
       go : RefusedOr (NotReady image cells) (Loadable image cells) → RefusedOr (NoCell image cells a i) (WithCell image cells a i)
       go (inl (k, p, h)) = inl (k, p, unready_for_cell k p h)
       go (inr (tree, u)) = by_cell tree u (has_cell tree a i) refl
-
-  pub poked_or_not : (a i : ℕ) → RefusedOr (NotPoked image cells a i) (Pokable image cells a i)
-  poked_or_not a i = go (cell_or_not a i)
-    where
-      by_array : (tree : Image) → WithCell image cells a i tree → (b : Bool) → fixed_array tree a ≡ b
-          → RefusedOr (NotPoked image cells a i) (Pokable image cells a i)
-      by_array tree w true e = inl (30, 0, fixed_cell_lem tree w e)
-      by_array tree w false e = inr (tree, record { cell = w; free = e })
-
-      go : RefusedOr (NoCell image cells a i) (WithCell image cells a i) → RefusedOr (NotPoked image cells a i) (Pokable image cells a i)
-      go (inl (k, p, h)) = inl (k, p, no_cell k p h)
-      go (inr (tree, w)) = by_array tree w (fixed_array tree a) refl
 
   pub called_or_not : (f : ℕ) (arguments : List ℕ) → RefusedOr (NotCalled image cells f arguments) (Callable image cells f arguments)
   called_or_not f arguments = go ready_or_not
@@ -169,6 +157,13 @@ module _ (image cells : List ℕ) where
 
 -- ---- Lent cells, of which words are set
 
+bytes_of_zeros : (n : ℕ) → bytes_of (replicate n 0) ≡ replicate (4 * n) 0
+unfolding bytes_of
+bytes_of_zeros zero = refl
+bytes_of_zeros (suc n) =
+    let e : 4 * suc n ≡ suc (suc (suc (suc (4 * n)))) = omega arith in
+    rw (e, bytes_of_zeros n)
+
 lent_set : (cells : List ℕ) → Bytes cells → (n v : ℕ) → n < length cells / 4 → lent cells (set (words_of cells) n v) ≡ stored n v cells
 unfolding lent words_of bytes_of
 lent_set [] h n v l = absurd (omega arith)
@@ -191,24 +186,23 @@ lent_set (x ∷ y ∷ z ∷ u ∷ b) h (suc n) v l =
 -- ---- Load, clear, poke, peek
 
 module _ (image cells : List ℕ) (are : Bytes cells) where
-  -- the lent bytes after a refusal, and after the image's own cells were put
+  -- the lent bytes after a refusal, and after the first n words were set to 0
   kept : (k p : ℕ) → ◌≡◌ {A = Served} (Refused k p, lent cells (words_of cells)) (Refused k p, cells)
   kept k p = ap (λ (x : List ℕ). (Refused k p, x)) (lent_words_of cells are)
 
-  put : (tree : Image) → Loadable image cells tree → ◌≡◌ {A = Served} (Done 0 0 0, lent cells (started tree (words_of cells))) (Done 0 0 0, cleared tree cells)
-  put tree u =
+  zeros : (n : ℕ) → 4 * n ≤ length cells → ◌≡◌ {A = Served} (Done 0 0 0, lent cells (replicate n 0 ++ drop n (words_of cells))) (Done 0 0 0, cleared n cells)
+  zeros n h =
       ap (λ (x : List ℕ). (Done 0 0 0, x))
-      (lent_front cells (start_cells tree.arrays tree.tables) (cell_count tree.arrays) are
-      (start_length tree.arrays tree.tables u.admissible.limits.tables_fit) u.enough)
+      (lent_front cells (replicate n 0) n are (length-replicate n 0) h ∙ ap (λ (x : List ℕ). x ++ drop (4 * n) cells) (bytes_of_zeros n))
 
   -- load: a refusal leaves the cells as they were. "Load sets cells to 0": the image's own; spare bytes stay.
   pub load_is_refused : {k p : ℕ} → NotLoaded image cells k p → load_bytes image cells ≡ (Refused k p, cells)
   unfolding load_bytes load served
   load_is_refused {k} {p} h = rw (not_loaded image cells h) (kept k p)
 
-  pub load_is_done : (tree : Image) → Loadable image cells tree → load_bytes image cells ≡ (Done 0 0 0, cleared tree cells)
+  pub load_is_done : (tree : Image) → Loadable image cells tree → load_bytes image cells ≡ (Done 0 0 0, cleared (cell_count tree.arrays) cells)
   unfolding load_bytes load served
-  load_is_done tree u = let (read, like, e) = loads image cells tree u in rw (e, sym like.arrays, sym like.tables) (put tree u)
+  load_is_done tree u = let (read, like, e) = loads image cells tree u in rw (e, sym like.arrays) (zeros (cell_count tree.arrays) u.enough)
 
   pub load_refused_exactly : (k p : ℕ) → Iff ((load_bytes image cells).0 ≡ Refused k p) (NotLoaded image cells k p)
   load_refused_exactly =
@@ -220,9 +214,9 @@ module _ (image cells : List ℕ) (are : Bytes cells) where
   unfolding clear_bytes clear served
   clear_is_refused {k} {p} h = rw (not_ready image cells h) (kept k p)
 
-  pub clear_is_done : (tree : Image) → Loadable image cells tree → clear_bytes image cells ≡ (Done 0 0 0, cleared tree cells)
+  pub clear_is_done : (tree : Image) → Loadable image cells tree → clear_bytes image cells ≡ (Done 0 0 0, cleared (cell_count tree.arrays) cells)
   unfolding clear_bytes clear served
-  clear_is_done tree u = let (read, like, e) = serves image cells tree u in rw (e, sym like.arrays, sym like.tables) (put tree u)
+  clear_is_done tree u = let (read, like, e) = serves image cells tree u in rw (e, sym like.arrays) (zeros (cell_count tree.arrays) u.enough)
 
   pub clear_refused_exactly : (k p : ℕ) → Iff ((clear_bytes image cells).0 ≡ Refused k p) (NotReady image cells k p)
   clear_refused_exactly =
@@ -230,27 +224,24 @@ module _ (image cells : List ℕ) (are : Bytes cells) where
       (λ tree u. done_not_refused (ap (λ (r : Served). r.0) (clear_is_done tree u)))
 
   module _ (a i : ℕ) where
-    pub poke_is_refused : {k p : ℕ} → NotPoked image cells a i k p → (v : ℕ) → poke_bytes image cells a i v ≡ (Refused k p, cells)
+    pub poke_is_refused : {k p : ℕ} → NoCell image cells a i k p → (v : ℕ) → poke_bytes image cells a i v ≡ (Refused k p, cells)
     unfolding poke_bytes poke served
-    poke_is_refused (no_cell k p (unready_for_cell j q h)) v = rw (not_ready image cells h) (kept k p)
-    poke_is_refused (no_cell k p (cell_missing tree u n)) v =
+    poke_is_refused (unready_for_cell k p h) v = rw (not_ready image cells h) (kept k p)
+    poke_is_refused (cell_missing tree u n) v =
         let (read, like, e) = serves image cells tree u in rw (e, sym like.arrays, n, lent_words_of cells are)
-    poke_is_refused (fixed_cell_lem tree w f) v =
-        let (read, like, e) = serves image cells tree w.loadable in rw (e, sym like.arrays, w.present, f, lent_words_of cells are)
 
-    pub poke_is_done : (tree : Image) → Pokable image cells a i tree → (v : ℕ)
+    pub poke_is_done : (tree : Image) → WithCell image cells a i tree → (v : ℕ)
         → poke_bytes image cells a i v ≡ (Done 0 0 0, stored (base_of tree.arrays a + i) v cells)
     unfolding poke_bytes poke served
-    poke_is_done tree r v =
-        let w = r.cell in
+    poke_is_done tree w v =
         let (read, like, e) = serves image cells tree w.loadable in
         let here = has_within tree.arrays a i w.present in
         let enough = w.loadable.enough in
-        rw (e, sym like.arrays, w.present, r.free, lent_set cells are (base_of tree.arrays a + i) v (omega arith))
+        rw (e, sym like.arrays, w.present, lent_set cells are (base_of tree.arrays a + i) v (omega arith))
 
-    pub poke_refused_exactly : (v k p : ℕ) → Iff ((poke_bytes image cells a i v).0 ≡ Refused k p) (NotPoked image cells a i k p)
+    pub poke_refused_exactly : (v k p : ℕ) → Iff ((poke_bytes image cells a i v).0 ≡ Refused k p) (NoCell image cells a i k p)
     poke_refused_exactly v =
-        refused_exactly (poked_or_not image cells a i) (poke_bytes image cells a i v).0 (λ k p h. ap (λ (r : Served). r.0) (poke_is_refused h v))
+        refused_exactly (cell_or_not image cells a i) (poke_bytes image cells a i v).0 (λ k p h. ap (λ (r : Served). r.0) (poke_is_refused h v))
         (λ tree w. done_not_refused (ap (λ (r : Served). r.0) (poke_is_done tree w v)))
 
     pub peek_is_refused : {k p : ℕ} → NoCell image cells a i k p → peek_bytes image cells a i ≡ (Refused k p, cells)

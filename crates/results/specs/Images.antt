@@ -31,7 +31,7 @@ Placed n f = eqb f.number 0 ≡ false → f.place < n
 
 fault_placed : (n : ℕ) (tree : Image) → ProceduresPlaces (λ p. p < n) tree.procedures → Placed n (fault_of tree)
 fault_placed n tree r =
-    fault_all {P = Placed n} tree (λ e. absurd (true≢false e)) (all_sort_faults (λ p h e. h) (λ p h e. h) (λ p h e. h) (λ p h e. h) tree r)
+    fault_all {P = Placed n} tree (λ e. absurd (true≢false e)) (all_sort_faults (λ p h e. h) (λ p h e. h) (λ p h e. h) tree r)
     (all_label_faults (λ p h e. h) (λ p h e. h) (λ p h e. h) (λ p h e. h) (λ p h e. h) tree r)
 
 read_within : {n k p : ℕ} → ReadRefusal n k p → p ≤ n

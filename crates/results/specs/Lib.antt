@@ -17,8 +17,6 @@ pub mod StillCompiles
 pub mod TwoRuns
 pub mod TwoCalls
 pub mod StoppedExactly
-pub mod FixedTables
-pub mod FixedStores
 pub mod PreviewedTraces
 pub mod WithinLimits
 pub mod CountsAdded

@@ -17,7 +17,7 @@ use Rattle.definitions.specs.Image.{Expression, boolean, variable, cell, unary, 
 use Rattle.definitions.specs.Image.{Procedure, Image, guarded, procedure_at, type_sort}
 use Rattle.definitions.specs.Labels.{secret_in, rc_after, rc_after_block}
 use Rattle.definitions.specs.Encoding.{expression_words, argument_words, statement_words, statements_words, block_words, procedure_words}
-use Rattle.definitions.specs.Encoding.{procedures_words, arrays_words, image_words}
+use Rattle.definitions.specs.Encoding.{procedures_words, image_words}
 use Rattle.definitions.specs.Compiling.{renamed, moved, moved_all, act, masked, under, one, followed_by, statement_nesting, block_nesting}
 use Rattle.definitions.specs.Compiling.{statement_needs, block_needs, ArmCode, compiled_if, compiled_return, compiled_call}
 use Rattle.definitions.specs.Compiling.{compiled_statement, compiled_block, defers, return_variable, first_moved, closed, temporary_of}
@@ -312,8 +312,8 @@ procedures_size ps arrays (p ∷ some) =
 no_more_words : (tree : Image) → length (image_words (compiled_image tree)) ≤ length (image_words (former_image tree))
 unfolding image_words compiled_image former_image
 no_more_words tree =
-    let m = length-append (arrays_words tree.arrays tree.tables) (procedures_words (compiled_procedures tree.procedures tree.arrays tree.procedures)) in
-    let n = length-append (arrays_words tree.arrays tree.tables) (procedures_words (map (λ p. former_procedure tree.procedures tree.arrays p) tree.procedures)) in
+    let m = length-append tree.arrays (procedures_words (compiled_procedures tree.procedures tree.arrays tree.procedures)) in
+    let n = length-append tree.arrays (procedures_words (map (λ p. former_procedure tree.procedures tree.arrays p) tree.procedures)) in
     let h = procedures_size tree.procedures tree.arrays tree.procedures in
     omega arith
 

@@ -16,7 +16,7 @@ use Rattle.definitions.specs.Reading.{Parse}
 use Rattle.definitions.specs.Checking.{admitted}
 use Rattle.definitions.specs.Running.{trace_words, Ran, Given, gave}
 use Rattle.definitions.specs.Requests.{Ready, ready, unready, with_cells, ready_to_load, ready_to_serve, Served, served}
-use Rattle.definitions.specs.Requests.{carried_out, started, load, clear, has_cell, fixed_array, poke, peek, Called, argument_values}
+use Rattle.definitions.specs.Requests.{carried_out, zeroed, load, clear, has_cell, poke, peek, Called, argument_values}
 use Rattle.definitions.specs.Requests.{ended, called_on, served_call, call, bounded, bound_on, bound}
 use Rattle.definitions.specs.StepBounds.{constant_bounds, statement_variable_fors, block_variable_fors, procedure_cost, reaches, callees_variable_fors, variable_fors_in, variable_fors}
 use Rattle.laws.specs.Trees.{StatementPlaces, in_assign, in_store, in_conditional, in_loop, in_return, in_call}
@@ -68,12 +68,6 @@ served_within cells f (readies_not i p h) k = h
 cell_within : (n v : ℕ) (after cells : List ℕ) (b : Bool) → answer_place (pick {A = Served} b (carried_out v, after) (Refused 17 0, cells)).0 ≤ n
 cell_within n v after cells true = omega arith
 cell_within n v after cells false = omega arith
-
-poked_within : (n : ℕ) (after cells : List ℕ) (b c : Bool)
-    → answer_place (pick {A = Served} b (pick c (Refused 30 0, cells) (carried_out 0, after)) (Refused 17 0, cells)).0 ≤ n
-poked_within n after cells true true = omega arith
-poked_within n after cells true false = omega arith
-poked_within n after cells false c = omega arith
 
 -- the fors that a bound names stand in the image
 data Each (R : ℕ → Type 0) : List ℕ → Type 0 where
@@ -140,19 +134,17 @@ module _ {n : ℕ} (whole : Bool) (image : List ℕ) (a : Admits n (admitted who
 
   pub load_within : answer_place (load whole image cells).0 ≤ n
   unfolding load
-  load_within = served_within cells (λ i. (carried_out 0, started i cells)) (readies_load whole image a (length cells)) (λ tree h. omega arith)
+  load_within = served_within cells (λ i. (carried_out 0, zeroed i cells)) (readies_load whole image a (length cells)) (λ tree h. omega arith)
 
   pub clear_within : answer_place (clear whole image cells).0 ≤ n
   unfolding clear
-  clear_within = served_within cells (λ i. (carried_out 0, started i cells)) (readies_serve whole image a (length cells)) (λ tree h. omega arith)
+  clear_within = served_within cells (λ i. (carried_out 0, zeroed i cells)) (readies_serve whole image a (length cells)) (λ tree h. omega arith)
 
   pub poke_within : (b i v : ℕ) → answer_place (poke whole image cells b i v).0 ≤ n
   unfolding poke
   poke_within b i v =
-      served_within cells
-      (λ m. pick (has_cell m b i) (pick (fixed_array m b) (Refused 30 0, cells) (carried_out 0, set cells (base_of m.arrays b + i) v)) (Refused 17 0, cells))
-      (readies_serve whole image a (length cells))
-      (λ tree h. poked_within n (set cells (base_of tree.arrays b + i) v) cells (has_cell tree b i) (fixed_array tree b))
+      served_within cells (λ m. pick (has_cell m b i) (carried_out 0, set cells (base_of m.arrays b + i) v) (Refused 17 0, cells))
+      (readies_serve whole image a (length cells)) (λ tree h. cell_within n 0 (set cells (base_of tree.arrays b + i) v) cells (has_cell tree b i))
 
   pub peek_within : (b i : ℕ) → answer_place (peek whole image cells b i).0 ≤ n
   unfolding peek
@@ -179,7 +171,7 @@ claimed n budget room size arrays =
       Going = λ z t. (z ≤ budget) × Recorded room t;
       Stops = λ k l z t. Stop budget room k z (length t) × (l < n) × (z ≤ budget) × Recorded room t;
       Cells = λ cs. length cs ≡ size;
-      stored = λ cs a l i v n e c. length-set cs (base_of arrays a + i) v ∙ c;
+      stored = λ cs i v c. length-set cs i v ∙ c;
       stepped = λ z t e g. (let q = ltb-true z budget e in omega arith, g.1);
       spent = λ l z t r e g. (budget_spent_lem z (length t) (let q = ltb-false z budget e in let h = g.0 in omega arith), r, g.0, g.1);
       recorded = λ kind l v z t r e g. (g.0, longer room (kind * 268435456 + l) v t g.1 e);

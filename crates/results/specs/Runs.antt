@@ -9,7 +9,7 @@ use Rattle.std.proofs.Math.Dec.{ltb, eqb}
 use Rattle.definitions.specs.Choice.{pick}
 use Rattle.definitions.specs.Arithmetic.{truth}
 use Rattle.definitions.specs.Operators.{divides, shifts, apply_binary}
-use Rattle.definitions.specs.Image.{array_length, base_of, Expression, Statement, Block, Procedure, procedure_at}
+use Rattle.definitions.specs.Image.{array_length, Expression, Statement, Block, Procedure, procedure_at}
 use Rattle.definitions.specs.Running.{Trace, Evaluated, value, stop, Ran, on, halt, bind, within, and_go, emit, in_array}
 use Rattle.definitions.specs.Running.{index_at, divided, shifted, operated, evaluate, evaluate_all, Outcome, next, back, Given}
 use Rattle.definitions.specs.Running.{gave, Callee, Body, tick, after, passes, taken, received, run_statement, run_block}
@@ -18,7 +18,7 @@ use Rattle.laws.specs.Trees.{ExpressionPlaces, at_constant, at_boolean, at_varia
 use Rattle.laws.specs.Trees.{at_select, ExpressionsPlaces, no_expression, and_expression, StatementPlaces, in_assign}
 use Rattle.laws.specs.Trees.{in_store, in_conditional, in_loop, in_return, in_call, BlockPlaces, in_done, in_sequence}
 use Rattle.laws.specs.Trees.{ProceduresPlaces, body_places_lem}
-use Rattle.results.specs.WordsNamed.{WordName, named_array, named_store, ExpressionNames, ExpressionsNames, StatementNames, BlockNames}
+use Rattle.results.specs.WordsNamed.{WordName, named_array, ExpressionNames, ExpressionsNames, StatementNames, BlockNames}
 use Rattle.results.specs.WordsNamed.{ProceduresNames}
 
 -- A claim about runs over the given budget and array words: what holds of the steps and the trace wherever a run goes on, of
@@ -27,8 +27,7 @@ pub record Claim {T : Type 0} (tracing : Trace T) (budget : ℕ) (arrays : List 
   pub Going : ℕ → T → Type 0
   pub Stops : ℕ → ℕ → ℕ → T → Type 0
   pub Cells : List ℕ → Type 0
-  pub stored : (cells : List ℕ) (a l i v : ℕ) → N l (named_store a) → ltb i (array_length (get_or arrays a 0)) ≡ true → Cells cells
-      → Cells (set cells (base_of arrays a + i) v)
+  pub stored : (cells : List ℕ) (i v : ℕ) → Cells cells → Cells (set cells i v)
   pub stepped : (z : ℕ) (t : T) → ltb z budget ≡ true → Going z t → Going (z + 1) t
   pub spent : (l z : ℕ) (t : T) → R l → ltb z budget ≡ false → Going z t → Stops 21 l z t
   pub recorded : (kind l v z : ℕ) (t : T) → R l → tracing.full t ≡ false → Going z t → Going z (tracing.add (kind * 268435456 + l) v t)
@@ -87,16 +86,14 @@ module _ {T : Type 0} {tracing : Trace T} {budget : ℕ} {arrays : List ℕ} {R 
       go true e = stops (C.filled l z t r e g)
       go false e = evaluates (C.recorded kind l v z t r e g) (refl, refl)
 
-  -- an index, which is then within the array
-  indexes : (a l i z : ℕ) (t : T) → R l → N l (named_array a) → C.Going z t
-      → Evaluates z (λ j u. ltb j (array_length (get_or arrays a 0)) ≡ true) (index_at tracing arrays a l i t)
-  unfolding index_at in_array
+  indexes : (a l i z : ℕ) (t : T) → R l → N l (named_array a) → C.Going z t → Evaluates z Any (index_at tracing arrays a l i t)
+  unfolding index_at in_array Any
   indexes a l i z t r n g =
       then_evaluates (emits 4 l i z t r g) (λ j u q p. rw (p.0, p.1) (tested (rw p.1 at q) (ltb i (array_length (get_or arrays a 0))) refl))
     where
       tested : C.Going z (tracing.add (4 * 268435456 + l) i t) → (b : Bool) → ltb i (array_length (get_or arrays a 0)) ≡ b
-          → Evaluates z (λ j u. ltb j (array_length (get_or arrays a 0)) ≡ true) (pick b (value i (tracing.add (4 * 268435456 + l) i t)) (stop 23 l (tracing.add (4 * 268435456 + l) i t)))
-      tested q true e = evaluates q e
+          → Evaluates z Any (pick b (value i (tracing.add (4 * 268435456 + l) i t)) (stop 23 l (tracing.add (4 * 268435456 + l) i t)))
+      tested q true e = evaluates q tt
       tested q false e = stops (C.beyond a l i z t r n e q)
 
   operates : (l o v w z : ℕ) (t : T) → R l → C.Going z t → Evaluates z Any (operated tracing l o v w t)
@@ -188,7 +185,7 @@ module _ {T : Type 0} {tracing : Trace T} {budget : ℕ} {arrays : List ℕ} {R 
       statement_runs l h (in_store {a} r s) n z t vs cs g c =
           then_runs (expression_evaluates r n.1 vs cs z t g)
           (λ v u q _. then_runs (indexes a l v z u h n.0 q)
-          (λ j x m b. then_runs (expression_evaluates s n.2 vs cs z x m) (λ w y o _. goes o (C.stored cs a l j w n.3 b c))))
+          (λ j x m _. then_runs (expression_evaluates s n.2 vs cs z x m) (λ w y o _. goes o (C.stored cs _ w c))))
       statement_runs l h (in_conditional r a b) n z t vs cs g c =
           then_runs (expression_evaluates r n.0 vs cs z t g)
           (λ v u q _. then_runs (emits 1 l (truth v) z u h q)

@@ -57,7 +57,7 @@ abbrev LastEntry : List ℕ → ℕ → ℕ → List ℕ → Type 0
 LastEntry words k place recorded = (k ≡ 23 → BeyondArray words place recorded) × (k ≡ 24 → DivisorZero words place recorded)
 
 module _ {whole : Bool} {words : List ℕ} {tree : Image} {n : ℕ} (w : ImageWords whole words tree n) (budget room : ℕ) where
-  index_beyond : (a l i : ℕ) (t : List ℕ) → l < length words → WithArray (Names words) tree.arrays l (named_array a)
+  index_beyond : (a l i : ℕ) (t : List ℕ) → l < length words → WithArray (Names words) (length tree.arrays) l (named_array a)
       → ltb i (array_length (get_or tree.arrays a 0)) ≡ false → BeyondArray words l (t ++ ((4 * 268435456 + l) ∷ i ∷ []))
   index_beyond a l i t h m e =
       let c : length tree.arrays ≡ arrays_of (get_or words 0 0) = w.arrays.words.count in
@@ -73,13 +73,13 @@ module _ {whole : Bool} {words : List ℕ} {tree : Image} {n : ℕ} (w : ImageWo
         beyond = rw (w.arrays.words.word a there) at (ltb-false i (array_length (get_or tree.arrays a 0)) e);
       }
 
-  abbrev last_entries : Claim (trace_words room) budget tree.arrays (Inside words) (WithArray (Names words) tree.arrays)
+  abbrev last_entries : Claim (trace_words room) budget tree.arrays (Inside words) (WithArray (Names words) (length tree.arrays))
   last_entries =
       record {
         Going = λ z t. Unit {0};
         Stops = λ k l z t. LastEntry words k l t;
         Cells = λ cs. Unit {0};
-        stored = λ cs a l i v n e c. tt;
+        stored = λ cs i v c. tt;
         stepped = λ z t e g. tt;
         spent = λ l z t r e g. (λ k. absurd (omega arith), λ k. absurd (omega arith));
         recorded = λ kind l v z t r e g. tt;

@@ -11,7 +11,7 @@ use Rattle.std.proofs.Math.ListN.{length, get_or, get_or-eq_default}
 use Rattle.definitions.specs.Image.{kind_of, payload_of, block_word, statement_word, expression_word, raw_word}
 use Rattle.definitions.specs.Image.{called_of, largest_level, Expression, constant, boolean, variable, cell, unary, binary}
 use Rattle.definitions.specs.Image.{select, Statement, assign, store, conditional, loop, return, call, Block, done}
-use Rattle.definitions.specs.Image.{sequence, Procedure, Image, procedure_at, no_procedure, array_fixed}
+use Rattle.definitions.specs.Image.{sequence, Procedure, Image, procedure_at, no_procedure}
 use Rattle.definitions.specs.Reading.{got, refused, Reader, expression_at, read_expression, read_arguments, statement_at}
 use Rattle.definitions.specs.Reading.{read_statements, read_statement, read_block, read_image}
 use Rattle.definitions.specs.Sorts.{sort_faults, argument_faults, statement_sort_faults, block_sort_faults, procedure_sort_faults}
@@ -22,10 +22,9 @@ use Rattle.statements.specs.Statements.{NamesArray, in_expression, in_store}
 use Rattle.laws.specs.Reads.{Reads, reads, refuses, read_as, too_deep, reads_then, reads_word}
 use Rattle.laws.specs.ReadImages.{open_image, arities, arities_known}
 
--- what a word names: an array, the array that a store writes to, or the operator of a binary expression
+-- what a word names: an array, or the operator of a binary expression
 pub data WordName : Type 0 where
   named_array : ℕ → WordName
-  named_store : ℕ → WordName
   named_operator : ℕ → WordName
 
 module _ (N : ℕ → WordName → Type 0) where
@@ -46,7 +45,7 @@ module _ (N : ℕ → WordName → Type 0) where
   unfoldable mutual
     pub StatementNames : ℕ → Statement → Type 0
     StatementNames p (assign x e) = ExpressionNames e
-    StatementNames p (store a i e) = N p (named_array a) × ExpressionNames i × ExpressionNames e × N p (named_store a)
+    StatementNames p (store a i e) = N p (named_array a) × ExpressionNames i × ExpressionNames e
     StatementNames p (conditional c a b) = ExpressionNames c × BlockNames a × BlockNames b
     StatementNames p (loop x f t b) = ExpressionNames f × ExpressionNames t × BlockNames b
     StatementNames p (return e) = ExpressionNames e
@@ -84,7 +83,7 @@ mutual
 
   statement_any : (p : ℕ) (s : Statement) → StatementNames AnyName p s
   statement_any p (assign x e) = any_name e
-  statement_any p (store a i e) = (tt, any_name i, any_name e, tt)
+  statement_any p (store a i e) = (tt, any_name i, any_name e)
   statement_any p (conditional c a b) = (any_name c, block_any a, block_any b)
   statement_any p (loop x f t b) = (any_name f, any_name t, block_any b)
   statement_any p (return e) = any_name e
@@ -97,13 +96,12 @@ mutual
 pub procedures_any : (ps : List Procedure) → ProceduresNames AnyName ps
 procedures_any ps f = block_any (procedure_at ps f).body
 
--- ---- a tree without a fault: each array is one of the image's, and no store is into a fixed one
+-- ---- a tree without a fault: each array is one of the image's
 
-module _ (N : ℕ → WordName → Type 0) (arrays : List ℕ) where
-  -- as before, and there is such an array; a store's is not fixed
+module _ (N : ℕ → WordName → Type 0) (arrays : ℕ) where
+  -- as before, and there is such an array
   abbrev pub WithArray : ℕ → WordName → Type 0
-  WithArray p (named_array a) = N p (named_array a) × (a < length arrays)
-  WithArray p (named_store a) = array_fixed (get_or arrays a 0) ≡ false
+  WithArray p (named_array a) = N p (named_array a) × (a < arrays)
   WithArray p (named_operator o) = N p (named_operator o)
 
   module _ (types : List ℕ) where
@@ -113,7 +111,7 @@ module _ (N : ℕ → WordName → Type 0) (arrays : List ℕ) where
     among_expression marks (boolean p v) h n = tt
     among_expression marks (variable p x) h n = tt
     among_expression marks (cell p a i) h n =
-        ((n.0, leb-false (length arrays) a (kept (leb (length arrays) a) 6 p (search empties))), among_expression marks i (search empties) n.1)
+        ((n.0, leb-false arrays a (kept (leb arrays a) 6 p (search empties))), among_expression marks i (search empties) n.1)
     among_expression marks (unary p o e) h n = among_expression marks e (search empties) n
     among_expression marks (binary p o e f) h n =
         (n.0, among_expression marks e (search empties) n.1, among_expression marks f (search empties) n.2)
@@ -138,10 +136,9 @@ module _ (N : ℕ → WordName → Type 0) (arrays : List ℕ) where
             → StatementNames N p s → StatementNames WithArray p s
         among_statement marks p (assign x e) h n = among_expression marks e (search empties) n
         among_statement marks p (store a i e) h n = (
-          (n.0, leb-false (length arrays) a (kept (leb (length arrays) a) 6 p (search empties))),
+          (n.0, leb-false arrays a (kept (leb arrays a) 6 p (search empties))),
           among_expression marks i (search empties) n.1,
           among_expression marks e (search empties) n.2,
-          kept (array_fixed (get_or arrays a 0)) 30 p (search empties),
         )
         among_statement marks p (conditional c a b) h n =
             (among_expression marks c (search empties) n.0, among_block marks a (search empties) n.1, among_block marks b (search empties) n.2)
@@ -169,7 +166,6 @@ module _ (N : ℕ → WordName → Type 0) (arrays : List ℕ) where
 module _ (image : List ℕ) where
   abbrev pub Names : ℕ → WordName → Type 0
   Names p (named_array a) = NamesArray (get_or image p 0) a
-  Names p (named_store a) = NamesArray (get_or image p 0) a
   Names p (named_operator o) = (kind_of (get_or image p 0) ≡ 13) × (payload_of (get_or image p 0) ≡ o)
 
   expression_names : (l at : ℕ) → Reads (length image) (λ e n. ExpressionNames Names e) (read_expression l image at)
@@ -204,7 +200,7 @@ module _ (image : List ℕ) where
         let k = statement_kind me w g in
         ops me w g
         (λ o. rw o (reads_then (expression_names l (at + 1)) (λ e n x. reads x)))
-        (λ o. rw o (reads_then (expression_names l (at + 1)) (λ i n x. reads_then (expression_names l n) (λ e m y. reads (in_store k o, x, y, in_store k o)))))
+        (λ o. rw o (reads_then (expression_names l (at + 1)) (λ i n x. reads_then (expression_names l n) (λ e m y. reads (in_store k o, x, y)))))
         (λ o. rw o (reads_then (expression_names l (at + 1)) (λ c n x. reads_then (b n) (λ a m y. reads_then (b m) (λ d i z. reads (x, y, z))))))
         (λ o. rw o (reads_then (expression_names l (at + 1)) (λ f n x. reads_then (expression_names l n)
         (λ t m y. reads_then (b m) (λ d i z. reads (x, y, z))))))
@@ -246,7 +242,7 @@ module _ (whole : Bool) (words : List ℕ) (tree : Image) (n : ℕ) (e : read_im
           let q = procedure_at tree.procedures f in
           read_as (rw p.body at (block_names words (arities tree.procedures) f (largest_level tree.form) (q.place + 1 + 1 + length q.types)))
 
-  -- and in an accepted image each array is one of the image's, and no store is into a fixed one
-  pub procedures_arrays : image_sort_faults tree ≡ [] → ProceduresNames (WithArray (Names words) tree.arrays) tree.procedures
+  -- and in an accepted image each array is one of the image's
+  pub procedures_arrays : image_sort_faults tree ≡ [] → ProceduresNames (WithArray (Names words) (length tree.arrays)) tree.procedures
   unfolding image_sort_faults
-  procedures_arrays h = among_procedures (Names words) tree.arrays tree.procedures tree.procedures h procedures_names
+  procedures_arrays h = among_procedures (Names words) (length tree.arrays) tree.procedures tree.procedures h procedures_names

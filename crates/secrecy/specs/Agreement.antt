@@ -1,7 +1,8 @@
 -- Two lists that agree where they are public: what keeps them so. And document 01's cells, "arrays in order": which place is secret.
 -- Assumes nothing.
-use Rattle.std.specs.Prelude.{◌≡◌, refl, Bool, true, false, List, [], ◌∷◌, ◌++◌, ℕ, zero, suc, ◌+◌, ◌-◌, ◌≤◌, ◌<◌, eqb, ltb, length, get_or, set, drop}
+use Rattle.std.specs.Prelude.{◌≡◌, refl, Bool, true, false, List, [], ◌∷◌, ◌++◌, ℕ, zero, suc, ◌+◌, ◌-◌, ◌≤◌, ◌<◌, eqb, ltb, length, get_or, set, drop, replicate}
 use Rattle.std.proofs.Common.{sym, ap, ◌∙◌, true≢false, zero-add, arith, length-set, length-append, length-drop, get_or-set_same, get_or-set_other, get_or-append-add, eqb-true, ltb-true, ltb-false, lt-ltb, le-ltb}
+use Rattle.std.proofs.lemmas.List.{length-replicate, get_or-replicate}
 use Rattle.std.proofs.Math.ListN.{get_or-append}
 use Rattle.std.proofs.Math.Seq.{set_out}
 use Rattle.std.proofs.lemmas.Bool.{eqb-false}
@@ -93,14 +94,21 @@ agree_cons {n} {s} {xs} {ys} v w e h = record { left = ap suc h.left; right = ap
     place zero g = e g
     place (suc i) g = h.here i g
 
--- the image's own cells as load and clear put them
-pub agree_started : (arrays start : List ℕ) → length start ≡ cell_count arrays → {n : ℕ} (xs ys : List ℕ) → length xs ≡ n → length ys ≡ n → cell_count arrays ≤ n
-    → Agree n (cell_secret arrays) (start ++ drop (cell_count arrays) xs) (start ++ drop (cell_count arrays) ys)
-agree_started arrays start c {n} xs ys p q k =
-    record { left = size xs p; right = size ys q; here = λ i g. put xs i (public_own arrays i g) ∙ sym (put ys i (public_own arrays i g)) }
+-- the image's own cells set to 0
+pub agree_zeroed : (arrays : List ℕ) {n : ℕ} (xs ys : List ℕ) → length xs ≡ n → length ys ≡ n → cell_count arrays ≤ n
+    → Agree n (cell_secret arrays) (replicate (cell_count arrays) 0 ++ drop (cell_count arrays) xs) (replicate (cell_count arrays) 0 ++ drop (cell_count arrays) ys)
+agree_zeroed arrays {n} xs ys p q k =
+    record { left = size xs p; right = size ys q; here = λ i g. zeroes xs i (public_own arrays i g) ∙ sym (zeroes ys i (public_own arrays i g)) }
   where
-    size : (zs : List ℕ) → length zs ≡ n → length (start ++ drop (cell_count arrays) zs) ≡ n
-    size zs e = rw (length-append start (drop (cell_count arrays) zs), length-drop (cell_count arrays) zs) (omega arith)
+    size : (zs : List ℕ) → length zs ≡ n → length (replicate (cell_count arrays) 0 ++ drop (cell_count arrays) zs) ≡ n
+    size zs e =
+        rw (
+          length-append (replicate (cell_count arrays) 0) (drop (cell_count arrays) zs),
+          length-replicate {A = ℕ} (cell_count arrays) 0,
+          length-drop (cell_count arrays) zs,
+        ) (omega arith)
 
-    put : (zs : List ℕ) (i : ℕ) → i < cell_count arrays → get_or (start ++ drop (cell_count arrays) zs) i 0 ≡ get_or start i 0
-    put zs i u = get_or-append start (drop (cell_count arrays) zs) 0 i (rw c u)
+    zeroes : (zs : List ℕ) (i : ℕ) → i < cell_count arrays → get_or (replicate (cell_count arrays) 0 ++ drop (cell_count arrays) zs) i 0 ≡ 0
+    zeroes zs i u =
+        get_or-append (replicate (cell_count arrays) 0) (drop (cell_count arrays) zs) 0 i (rw (length-replicate {A = ℕ} (cell_count arrays) 0) u)
+        ∙ get_or-replicate (cell_count arrays) i 0 0 u

@@ -7,7 +7,7 @@ use Rattle.std.proofs.Common.{true≢false}
 use Rattle.definitions.specs.declared.Answer.TheVariants.{Done}
 use Rattle.definitions.specs.Bytes.{bytes_of, words_of, lent}
 use Rattle.definitions.specs.Image.{header_word, array_word, procedure_word, type_word, block_word, statement_word}
-use Rattle.definitions.specs.Image.{expression_word, raw_word, place_of, cell_count, start_cells, base_of}
+use Rattle.definitions.specs.Image.{expression_word, raw_word, place_of, cell_count, base_of}
 use Rattle.definitions.specs.Faults.{least}
 use Rattle.definitions.specs.Checking.{fault_of, without_fault, admitted}
 use Rattle.definitions.specs.Operators.{apply_binary, apply_unary}
@@ -59,9 +59,9 @@ pub compared : ((turn (loaded first) (Statements.preview 0 (bytes_of (7 ∷ []))
     × ((turn (loaded first) (Statements.call 0 (bytes_of (7 ∷ [])) 8 first_trace)).answer ≡ Done 1 8 2)
     × ((turn (loaded second) (Statements.call 0 (bytes_of (6 ∷ [])) 8 second_trace)).answer ≡ Done 0 8 2)
     × AlikeLists (empty first) (requests 7 first_trace) (requests 6 second_trace)
-unfolding words_of bytes_of lent header_word array_word procedure_word type_word block_word statement_word expression_word raw_word place_of cell_count start_cells
+unfolding words_of bytes_of lent header_word array_word procedure_word type_word block_word statement_word expression_word raw_word place_of cell_count
     base_of Reading.read_expression Reading.read_arguments Reading.read_statements Reading.read_types Reading.read_procedure
-    Reading.read_procedures Reading.read_array Reading.read_arrays Reading.tables_at Reading.read_rest Reading.read_image Reading.read_statement Reading.read_block least Sorts.sort_in
+    Reading.read_procedures Reading.read_arrays Reading.read_rest Reading.read_image Reading.read_statement Reading.read_block least Sorts.sort_in
     Sorts.sort_faults Sorts.argument_faults Sorts.procedure_sort_faults Sorts.procedures_sort_faults Sorts.image_sort_faults Sorts.mark_statement
     Sorts.mark_block Sorts.statement_sort_faults Sorts.block_sort_faults Labels.secret_in Labels.is_constant Labels.constant_value
     Labels.bounded_sum Labels.bounded_index Labels.label_faults Labels.argument_label_faults Labels.procedure_label_faults Labels.procedures_label_faults

@@ -10,14 +10,13 @@ use Rattle.std.proofs.Math.ListN.{set}
 use Rattle.definitions.specs.Choice.{pick}
 use Rattle.definitions.specs.declared.Answer.TheVariants.{Refused}
 use Rattle.definitions.specs.Bytes.{words_of}
-use Rattle.definitions.specs.Image.{array_secret, array_length, base_of, start_cells, Image}
-use Rattle.definitions.specs.Requests.{Ready, ready, unready, ready_to_serve, Served, served, carried_out, started, has_cell, fixed_array}
+use Rattle.definitions.specs.Image.{array_secret, array_length, base_of, Image}
+use Rattle.definitions.specs.Requests.{Ready, ready, unready, ready_to_serve, Served, served, carried_out, zeroed, has_cell}
 use Rattle.definitions.specs.Requests.{clear, poke, peek}
 use Rattle.definitions.specs.Host.{whole_words}
-use Rattle.laws.specs.Started.{image_start}
 use Rattle.statements.specs.Statements.{image_of, secret_cell, SameAnswer, both_done, both_refused}
 use Rattle.secrecy.specs.Usable.{usable_serve}
-use Rattle.secrecy.specs.Agreement.{Agree, agree_set, agree_started, cell_secret, layout}
+use Rattle.secrecy.specs.Agreement.{Agree, agree_set, agree_zeroed, cell_secret, layout}
 
 -- two requests on words that are answered alike, and leave m cells that agree where they are public
 pub record ServedAlike (secret : Bool) (m : ℕ) (arrays : List ℕ) (x y : Served) : Type 0 where
@@ -60,22 +59,21 @@ module _ (bytes : List ℕ) (m : ℕ) (cs ds : List ℕ) (agree : Agree m (cell_
   unfolding poke
   same_poke a i v w e =
       same_served bytes false m cs ds
-      (λ j. pick (has_cell j a i) (pick (fixed_array j a) (Refused 30 0, cs) (carried_out 0, set cs (base_of j.arrays a + i) v)) (Refused 17 0, cs))
-      (λ j. pick (has_cell j a i) (pick (fixed_array j a) (Refused 30 0, ds) (carried_out 0, set ds (base_of j.arrays a + i) w)) (Refused 17 0, ds))
-      agree (by_test (has_cell (image_of bytes) a i) refl (fixed_array (image_of bytes) a) e)
+      (λ j. pick (has_cell j a i) (carried_out 0, set cs (base_of j.arrays a + i) v) (Refused 17 0, cs))
+      (λ j. pick (has_cell j a i) (carried_out 0, set ds (base_of j.arrays a + i) w) (Refused 17 0, ds))
+      agree (by_test (has_cell (image_of bytes) a i) refl e)
     where
-      by_test : (b : Bool) → has_cell (image_of bytes) a i ≡ b → (c : Bool) → ((b && array_secret (get_or (image_of bytes).arrays a 0)) ≡ false → v ≡ w)
+      by_test : (b : Bool) → has_cell (image_of bytes) a i ≡ b → ((b && array_secret (get_or (image_of bytes).arrays a 0)) ≡ false → v ≡ w)
           → ServedAlike false m (image_of bytes).arrays
-          (pick b (pick c (Refused 30 0, cs) (carried_out 0, set cs (base_of (image_of bytes).arrays a + i) v)) (Refused 17 0, cs))
-          (pick b (pick c (Refused 30 0, ds) (carried_out 0, set ds (base_of (image_of bytes).arrays a + i) w)) (Refused 17 0, ds))
-      by_test true p true f = record { answers = both_refused; agree = agree }
-      by_test true p false f =
+          (pick b (carried_out 0, set cs (base_of (image_of bytes).arrays a + i) v) (Refused 17 0, cs))
+          (pick b (carried_out 0, set ds (base_of (image_of bytes).arrays a + i) w) (Refused 17 0, ds))
+      by_test true p f =
           record {
             answers = both_done (λ _. refl);
             agree = agree_set (base_of (image_of bytes).arrays a + i) v w agree
                 (λ g. f (sym (layout (image_of bytes).arrays a i (has_cell_lem (image_of bytes) a i p)) ∙ g));
           }
-      by_test false p c f = record { answers = both_refused; agree = agree }
+      by_test false p f = record { answers = both_refused; agree = agree }
 
   pub same_peek : (a i : ℕ)
       → ServedAlike (secret_cell (image_of bytes) a i) m (image_of bytes).arrays (peek (whole_words bytes) (words_of bytes) cs a i)
@@ -101,8 +99,8 @@ module _ (bytes : List ℕ) (m : ℕ) (cs ds : List ℕ) (agree : Agree m (cell_
       rw (agree.left, agree.right) (by_ready (ready_to_serve (whole_words bytes) (words_of bytes) m) refl)
     where
       by_ready : (r : Ready) → ready_to_serve (whole_words bytes) (words_of bytes) m ≡ r
-          → ServedAlike false m (image_of bytes).arrays (served r cs (λ i. (carried_out 0, started i cs))) (served r ds (λ i. (carried_out 0, started i ds)))
+          → ServedAlike false m (image_of bytes).arrays (served r cs (λ i. (carried_out 0, zeroed i cs))) (served r ds (λ i. (carried_out 0, zeroed i ds)))
       by_ready (ready image) e =
           let u = usable_serve bytes m image e in
-          rw u.tree (record { answers = both_done (λ _. refl); agree = agree_started (image_of bytes).arrays (start_cells (image_of bytes).arrays (image_of bytes).tables) (image_start bytes) cs ds agree.left agree.right u.room })
+          rw u.tree (record { answers = both_done (λ _. refl); agree = agree_zeroed (image_of bytes).arrays cs ds agree.left agree.right u.room })
       by_ready (unready n p) e = record { answers = both_refused; agree = agree }

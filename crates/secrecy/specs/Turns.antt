@@ -11,17 +11,15 @@ use Rattle.definitions.specs.declared.Answer.TheVariants.{Refused}
 use Rattle.definitions.specs.Bytes.{words_of, lent}
 use Rattle.definitions.specs.Reading.{read_image}
 use Rattle.definitions.specs.Checking.{checked, admitted}
-use Rattle.definitions.specs.Requests.{Ready, ready, unready, ready_to_load, Served, served, carried_out, started, Called}
+use Rattle.definitions.specs.Requests.{Ready, ready, unready, ready_to_load, Served, served, carried_out, zeroed, Called}
 use Rattle.definitions.specs.Requests.{load, clear, poke, peek, call, preview}
 use Rattle.definitions.specs.Host.{whole_words, load_bytes, clear_bytes, poke_bytes, peek_bytes, call_bytes, preview_bytes, check_bytes}
 use Rattle.statements.specs.Statements.{Machine, Response, turn, accepted, recorded_count, recorded, tree_of, image_of}
 use Rattle.statements.specs.Statements.{secret_result, Alike, loads, pokes, peeks, clears, calls, previews, both_done, both_refused}
 use Rattle.statements.specs.Statements.{InForce, nothing, SameAnswer, SameResponse}
-use Rattle.secrecy.specs.Agreement.{Agree, agree_started, cell_secret}
+use Rattle.secrecy.specs.Agreement.{Agree, agree_zeroed, cell_secret}
 use Rattle.secrecy.specs.Lending.{length_words_of, words_of_lent, length_lent, take_lent}
-use Rattle.definitions.specs.Image.{start_cells}
 use Rattle.secrecy.specs.Usable.{usable_load}
-use Rattle.laws.specs.Started.{image_start}
 use Rattle.secrecy.specs.Serving.{ServedAlike, public_cells, same_poke, same_peek, same_clear}
 use Rattle.secrecy.specs.Calling.{CalledAlike, same_call}
 use Rattle.statements.specs.Statements
@@ -101,14 +99,14 @@ module _ (image cells cells' : List ℕ) (force : InForce image) (size : length 
 
 -- what a load makes of the words of the lent cells, and the response to it where the given image is in force
 abbrev loading : List ℕ → Ready → Served
-loading ws r = served r ws (λ i. (carried_out 0, started i ws))
+loading ws r = served r ws (λ i. (carried_out 0, zeroed i ws))
 
 abbrev loaded : List ℕ → List ℕ → List ℕ → Ready → Response
 loaded image bytes cells r =
     let s : Served = loading (words_of cells) r in
     record { answer = s.0; trace = []; after = record { image = pick (accepted s.0) bytes image; cells = lent cells s.1 } }
 
--- a load: it is refused on both, or its image is the one in force on both, with its cells as load puts them
+-- a load: it is refused on both, or its image is the one in force on both, with all its cells 0
 module _ (image cells cells' : List ℕ) (force : InForce image) (size : length cells ≡ length cells')
     (agree : Agree (length (words_of cells)) (cell_secret (image_of image).arrays) (words_of cells) (words_of cells')) where
   turned_load : (bytes : List ℕ) (r : Ready) → ready_to_load (whole_words bytes) (words_of bytes) (length (words_of cells)) ≡ r
@@ -117,11 +115,11 @@ module _ (image cells cells' : List ℕ) (force : InForce image) (size : length 
   unfolding served check_bytes checked admitted image_of
   turned_load bytes (ready tree) e f =
       let u = usable_load bytes (length (words_of cells)) tree e in
-      turned bytes cells cells' (Statements.checked u.accepts (f refl)) size (carried_out 0, started tree (words_of cells))
-      (carried_out 0, started tree (words_of cells'))
+      turned bytes cells cells' (Statements.checked u.accepts (f refl)) size (carried_out 0, zeroed tree (words_of cells))
+      (carried_out 0, zeroed tree (words_of cells'))
       (record {
         answers = both_done (λ _. refl);
-        agree = rw u.tree (agree_started (image_of bytes).arrays (start_cells (image_of bytes).arrays (image_of bytes).tables) (image_start bytes) (words_of cells) (words_of cells') agree.left agree.right u.room);
+        agree = rw u.tree (agree_zeroed (image_of bytes).arrays (words_of cells) (words_of cells') agree.left agree.right u.room);
       })
   turned_load bytes (unready n p) e f =
       turned image cells cells' force size (Refused n p, words_of cells) (Refused n p, words_of cells') (record { answers = both_refused; agree = agree })

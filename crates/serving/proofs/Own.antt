@@ -16,7 +16,6 @@ use Rattle.tables.specs.Looking.{known_arrays, few_cells}
 use Rattle.requests.specs.Cells.{Fits, known_fits}
 use Rattle.laws.specs.Ready.{ready_read, serve_read}
 use Rattle.checker.specs.Left.{known_filled, read_tree}
-use Rattle.machine.specs.Serving.{Starts}
 use Rattle.ready.specs.declared.Ready.{Ready}
 use Rattle.ready.specs.declared.Ready.TheVariants.{Cells}
 use Rattle.ready.specs.Prepared.{readied, readied_cells, table_left}
@@ -53,10 +52,6 @@ module _ (image cells table : List ℕ) (x : ℕ → Readiness) (own : ℕ) wher
         fits = known_fits (words_of image) table own known (rw same all);
         arrays = known_arrays (words_of image) table known ∙ ap (λ (i : Image). i.arrays) same;
       }
-
-  -- what load and clear ask
-  pub own_starts : Own image cells table x own → (n : ℕ) → n ≡ own → Starts image table n
-  own_starts o n e = record { known = o.known; all = e ∙ o.all ∙ ap (λ (i : Image). cell_count i.arrays) (sym o.spelled) }
 
   with_table : (tree : Image) (n : ℕ) → read_image (whole_words image) (words_of image) ≡ got tree n
       → table ≡ table_left (read_image (whole_words image) (words_of image)) → Known (words_of image) table

@@ -9,7 +9,7 @@ use lib.Seq.{length-take-le, take_all}
 use Rattle.definitions.specs.Choice.{pick}
 use Rattle.definitions.specs.Bytes.{Bytes, words_of, bytes_of, lent}
 use Rattle.definitions.specs.Image.{Image, base_of}
-use Rattle.definitions.specs.Requests.{Ready as Readiness, Served, Called, carried_out, unready, ready_to_load, ready_to_serve, served, called_on, bound_on, bound}
+use Rattle.definitions.specs.Requests.{Served, Called, carried_out, unready, ready_to_load, ready_to_serve, served, called_on, bound_on, bound}
 use Rattle.definitions.specs.Host.{whole_words, load_bytes, clear_bytes, poke_bytes, peek_bytes, call_bytes, preview_bytes, bound_bytes}
 use Rattle.definitions.specs.declared.Answer.{Answer}
 use Rattle.definitions.specs.declared.Answer.TheVariants.{Done, Stopped, Refused}
@@ -26,7 +26,7 @@ use Rattle.checker.specs.Left.{ends_left}
 use Rattle.machine.specs.declared.Machine.{Machine}
 use Rattle.machine.specs.declared.Turn.{Turn}
 use Rattle.machine.specs.Turns.{held, Kept, given_back, Turned}
-use Rattle.machine.specs.Serving.{Serves, start_on, TurnedCall, TurnedPreview}
+use Rattle.machine.specs.Serving.{Serves, TurnedCall, TurnedPreview}
 use Rattle.ready.specs.declared.Ready.{Ready}
 use Rattle.ready.specs.declared.Ready.TheVariants.{Cells, Unready}
 use Rattle.ready.specs.Prepared.{readied, readied_not, Prepared}
@@ -119,18 +119,17 @@ module _ (cells : List ℕ) (bytes : Bytes cells) (own : ℕ) (enough : 4 * own 
 
 module _ (image cells table : List ℕ) (bytes : Bytes cells) (own : ℕ) (m : Machine) (h : held m ≡ take own (words_of cells)) (c : m.count ≡ own)
     (t : Turn) (r : Answer) (after : List ℕ) (a : r ≡ t.answer) (e : after ≡ given_back t.answer t.machine cells) where
-  cleared : {x : ℕ → Readiness} (o : Own image cells table x own) → Turned m t (start_on image)
-      → (r, after) ≡ afterwards cells own (clear_on o.tree.arrays o.tree.tables)
-  cleared o turned =
-      given_back_lem cells bytes own o.enough m h c t turned.kept after e (start_on image) turned.gives r a
-      ∙ ap (λ (i : Image). afterwards cells own (clear_on i.arrays i.tables)) o.spelled
+  cleared : 4 * own ≤ length cells → Turned m t (clear_on m.count) → (r, after) ≡ afterwards cells own (clear_on own)
+  cleared enough turned =
+      given_back_lem cells bytes own enough m h c t turned.kept after e (clear_on m.count) turned.gives r a
+      ∙ ap (λ (k : ℕ). afterwards cells own (clear_on k)) c
 
-  pub load_done : Own image cells table (ready_to_load (whole_words image) (words_of image)) own → Turned m t (start_on image) → (r, after) ≡ load_bytes image cells
-  load_done o turned = cleared o turned ∙ sym (load_ready cells bytes image o.tree own o.all o.enough o.is_ready)
+  pub load_done : Own image cells table (ready_to_load (whole_words image) (words_of image)) own → Turned m t (clear_on m.count) → (r, after) ≡ load_bytes image cells
+  load_done o turned = cleared o.enough turned ∙ sym (load_ready cells bytes image o.tree own o.all o.enough o.is_ready)
 
   module _ (o : Own image cells table (ready_to_serve (whole_words image) (words_of image)) own) where
-    pub clear_done : Turned m t (start_on image) → (r, after) ≡ clear_bytes image cells
-    clear_done turned = cleared o turned ∙ sym (clear_ready cells bytes image o.tree own o.all o.enough o.is_ready)
+    pub clear_done : Turned m t (clear_on m.count) → (r, after) ≡ clear_bytes image cells
+    clear_done turned = cleared o.enough turned ∙ sym (clear_ready cells bytes image o.tree own o.all o.enough o.is_ready)
 
     pub poke_done : (b i v : ℕ) → Turned m t (poke_on (arrays_in table) (held m) b i v) → (r, after) ≡ poke_bytes image cells b i v
     poke_done b i v turned =

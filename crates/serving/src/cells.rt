@@ -1,4 +1,4 @@
-// Load and clear, which set every cell to 0, or to its table word where it is fixed; poke and peek, which reach one cell.
+// Load and clear, which set every cell to 0; poke and peek, which reach one cell.
 ghost use Rattle.std.specs.Prelude.{◌≡◌};
 ghost use Rattle.definitions.specs.Host.{load_bytes, clear_bytes, poke_bytes, peek_bytes};
 
@@ -7,16 +7,14 @@ use machine::Machine;
 use ready::{Ready, ready_to_load, ready_to_serve};
 use tables::SIZE;
 
-// "Load sets cells to 0"; the table words of fixed arrays come from the lent image.
+// "Load sets cells to 0".
 pub fn load(image: &[u8], cells: &mut [u8]) -> Answer
     ensures { (result, cells.new) ≡ load_bytes image.now cells.old }
 {
     let mut table = [0u32; SIZE];
     match ready_to_load(image, cells.len() / 4, &mut table) {
         Ready::Unready(number, place) => Answer::Refused(number, place),
-        Ready::Cells(own) => Machine::lent(cells, own)
-            .load(image, &table)
-            .give_back(cells),
+        Ready::Cells(own) => Machine::lent(cells, own).load().give_back(cells),
     }
 }
 
@@ -27,9 +25,7 @@ pub fn clear(image: &[u8], cells: &mut [u8]) -> Answer
     let mut table = [0u32; SIZE];
     match ready_to_serve(image, cells.len() / 4, &mut table) {
         Ready::Unready(number, place) => Answer::Refused(number, place),
-        Ready::Cells(own) => Machine::lent(cells, own)
-            .clear(image, &table)
-            .give_back(cells),
+        Ready::Cells(own) => Machine::lent(cells, own).clear().give_back(cells),
     }
 }
 

@@ -23,7 +23,7 @@ use Rattle.sorts.specs.declared.Walked.{Walked}
 use Rattle.sorts.specs.Walk.{walk, operand_walked, statement_walked, block_walked}
 use Rattle.sorts.proofs.ExpressionRules.{operand_next}
 
-module _ (ps : List Procedure) (types arrays marks : List ℕ) (scope : Scope) (best : Fault) where
+module _ (ps : List Procedure) (types : List ℕ) (arrays : ℕ) (marks : List ℕ) (scope : Scope) (best : Fault) where
   statement_next : (at : ℕ) (x : Parse Statement) (r : Walked) → r ≡ statement_walked ps types arrays marks scope at best x → r.next ≡ end_of x
   unfolding statement_walked end_of
   statement_next at (got s n) r h = ap (λ (z : Walked). z.next) h
@@ -35,7 +35,7 @@ module _ (ps : List Procedure) (types arrays marks : List ℕ) (scope : Scope) (
   block_next (refused n p) r h = ap (λ (z : Walked). z.next) h
 
 -- the statements of a block that are left
-module _ (ps : List Procedure) (types arrays marks : List ℕ) (scope : Scope) (l : ℕ) (params : List ℕ) (me : ℕ) (image : List ℕ)
+module _ (ps : List Procedure) (types : List ℕ) (arrays : ℕ) (marks : List ℕ) (scope : Scope) (l : ℕ) (params : List ℕ) (me : ℕ) (image : List ℕ)
     (n at j : ℕ) (best : Fault) where
   module _ (X : Walked) (d : block_walked ps types arrays marks scope best (statements_at (n - j) l params me image at) ≡ X) where
     pub block_done : n ≤ j → walk at best ≡ X
@@ -65,7 +65,7 @@ module _ (ps : List Procedure) (types arrays marks : List ℕ) (scope : Scope) (
   block_again t h w q = statements_left l params me image at n j t h w.next (statement_next ps types arrays marks scope best at _ w q)
 
 -- if and for
-module _ (types arrays marks : List ℕ) (l : ℕ) (params : List ℕ) (me : ℕ) (image : List ℕ) (at : ℕ)
+module _ (types : List ℕ) (arrays : ℕ) (marks : List ℕ) (l : ℕ) (params : List ℕ) (me : ℕ) (image : List ℕ) (at : ℕ)
     (t : ok (read_statement l params me image at) ≡ true) where
   module _ (k : op_of (get_or image at 0) ≡ 2) (best : Fault) (c : WalkedExpression)
       (q : c ≡ operand_walked types arrays marks 1 best (read_expression (l - 1) image (at + 1))) where

@@ -21,7 +21,7 @@ use Rattle.image_words.specs.Parts.{told, read_values}
 use Rattle.sorts.specs.declared.WalkedExpression.{WalkedExpression}
 use Rattle.sorts.specs.Walk.{found, expression_walked, operand_walked}
 
-module _ (types arrays marks : List ℕ) where
+module _ (types : List ℕ) (arrays : ℕ) (marks : List ℕ) where
   -- ---- where the next operand stands
 
   module _ (best : Fault) where
@@ -87,7 +87,7 @@ module _ (types arrays marks : List ℕ) where
       unfolding expression_walked sort_in sort_faults
       variable_returns x b s d hx h g = rw (open_variable l image at t (told hk d), least_append, h, g, hx)
 
-    pub cell_returns : (m : Fault) (c p : ℕ) (i : WalkedExpression) → kind_of (get_or image at 0) ≡ 11 → c ≡ length arrays → p ≡ payload_of (get_or image at 0)
+    pub cell_returns : (m : Fault) (c p : ℕ) (i : WalkedExpression) → kind_of (get_or image at 0) ≡ 11 → c ≡ arrays → p ≡ payload_of (get_or image at 0)
         → m ≡ least best (fault_if (leb c p) 6 at)
         → i ≡ operand_walked types arrays marks 0 m (read_expression (l - 1) image (at + 1))
         → found 0 i.next i.best ≡ expression_walked types arrays marks best (read_expression l image at)

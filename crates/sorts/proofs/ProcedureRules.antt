@@ -9,8 +9,8 @@ use Rattle.definitions.specs.Reading.{got, read_block}
 use Rattle.definitions.specs.Faults.{no_fault, least}
 use Rattle.definitions.specs.Sorts.{mark_block, procedure_sort_faults, procedures_sort_faults, image_sort_faults}
 use Rattle.laws.specs.ImageIn.{image_in, procedures_in}
-use Rattle.tables.specs.Table.{Known, arrays_in, place_in, body_in, params_in}
-use Rattle.tables.specs.Looking.{Listed, procedure_in, known_arity, known_arrays}
+use Rattle.tables.specs.Table.{Known, array_count_in, place_in, body_in, params_in}
+use Rattle.tables.specs.Looking.{Listed, procedure_in, known_arity, known_count}
 use Rattle.faults.specs.Bodies.{types_part, body_reads}
 use Rattle.sorts.specs.declared.Walked.{Walked}
 use Rattle.sorts.specs.Walk.{block_walked}
@@ -18,7 +18,7 @@ use Rattle.sorts.specs.Marking.{block_marks}
 
 module _ (image table : List ℕ) (me : ℕ) (k : Listed image table me) (p b : ℕ) (hp : p ≡ place_in table me) (hb : b ≡ body_in table me)
     (w form level : ℕ) (hw : w ≡ get_or image 0 0) (hf : form ≡ form_of w) (hl : level ≡ largest_level form) where
-  pub procedure_checked : (parameters result r : ℕ) (arrays : List ℕ) (best : Fault) (m1 : List ℕ) (s : Walked)
+  pub procedure_checked : (parameters result r arrays : ℕ) (best : Fault) (m1 : List ℕ) (s : Walked)
       → parameters ≡ get_or (params_in table) me 0 → result ≡ (procedure_in image me).result
       → ◌≡◌ {A = ℕ × List ℕ} (r, m1) (block_marks (read_block level (params_in table) me image b) (replicate 256 0))
       → s ≡ block_walked (procedures_in image) (take (b - (p + 1 + 1)) (drop (p + 1 + 1) image)) arrays m1
@@ -37,7 +37,7 @@ module _ (image table : List ℕ) (me : ℕ) (k : Listed image table me) (p b : 
 
 -- all procedures are left
 pub image_begins : (image table : List ℕ) → Known image table
-    → least no_fault (flat_map (λ p. procedure_sort_faults (procedures_in image) (arrays_in table) p) (drop 0 (procedures_in image)))
+    → least no_fault (flat_map (λ p. procedure_sort_faults (procedures_in image) (array_count_in table) p) (drop 0 (procedures_in image)))
     ≡ least no_fault (image_sort_faults (image_in image))
 unfolding image_sort_faults procedures_sort_faults
-image_begins image table k = rw (known_arrays image table k)
+image_begins image table k = rw (known_count image table k)

@@ -1,13 +1,13 @@
 -- Rules for the statements that hold no block: what each way of returning gives, and what each call asks. Assumes nothing.
 use Prim.Native.Nat.{ℕ, ◌+◌, ◌-◌, ◌≤◌, ◌<◌}
 use native.Mathlib.Omega.{arith}
-use mathlib.Core.Bool.{Bool, true}
+use mathlib.Core.Bool.{true}
 use mathlib.Core.List.{List, ◌∷◌}
 use mathlib.Core.Path.{◌≡◌, sym, ap, ◌∙◌}
 use lib.Dec.{leb}
-use lib.ListN.{length, get_or}
+use lib.ListN.{get_or}
 use Rattle.definitions.specs.declared.Fault.{Fault}
-use Rattle.definitions.specs.Image.{array_fixed, type_sort, op_of, target_of, called_of, result_of, Expression, assign, store, return}
+use Rattle.definitions.specs.Image.{type_sort, op_of, target_of, called_of, result_of, Expression, assign, store, return}
 use Rattle.definitions.specs.Image.{call, Procedure, procedure_at}
 use Rattle.definitions.specs.Reading.{got, read_expression, read_arguments, read_statement}
 use Rattle.definitions.specs.Faults.{least, fault_if}
@@ -25,7 +25,7 @@ use Rattle.sorts.specs.Walk.{walk, target_noted, operand_walked, arguments_walke
 use Rattle.sorts.proofs.ExpressionRules.{operand_next}
 
 -- the values of a call that are left
-module _ (types arrays marks callee : List ℕ) (l : ℕ) (image : List ℕ) (n at j : ℕ) (best : Fault) where
+module _ (types : List ℕ) (arrays : ℕ) (marks callee : List ℕ) (l : ℕ) (image : List ℕ) (n at j : ℕ) (best : Fault) where
   module _ (X : Walked) (d : arguments_walked types arrays marks callee j best (arguments_at (n - j) l image at) ≡ X) where
     pub arguments_done : n ≤ j → walk at best ≡ X
     unfolding arguments_walked argument_faults least
@@ -51,7 +51,7 @@ module _ (types arrays marks callee : List ℕ) (l : ℕ) (image : List ℕ) (n 
   arguments_again t h want i q = arguments_left l image n at j t h i.next (operand_next types arrays marks best want _ i q)
 
 -- the statements
-module _ (ps : List Procedure) (types arrays marks : List ℕ) (scope : Scope) (best : Fault) (l : ℕ) (params : List ℕ) (me : ℕ)
+module _ (ps : List Procedure) (types : List ℕ) (arrays : ℕ) (marks : List ℕ) (scope : Scope) (best : Fault) (l : ℕ) (params : List ℕ) (me : ℕ)
     (image : List ℕ) (at : ℕ) (t : ok (read_statement l params me image at) ≡ true) where
   abbrev Returned : Walked → Type 0
   Returned w = w ≡ statement_walked ps types arrays marks scope at best (read_statement l params me image at)
@@ -75,17 +75,17 @@ module _ (ps : List Procedure) (types arrays marks : List ℕ) (scope : Scope) (
           → Returned (walk i.next i.best)
       go e n r z = rw (z, q, r, h)
 
-  pub store_returns : (c a w : ℕ) (x : Bool) (m m' : Fault) (i j : WalkedExpression) → op_of (get_or image at 0) ≡ 1 → c ≡ length arrays → a ≡ target_of (get_or image at 0)
-      → m ≡ least best (fault_if (leb c a) 6 at) → w ≡ get_or arrays a 0 → x ≡ array_fixed w → m' ≡ least m (fault_if x 30 at)
-      → i ≡ operand_walked types arrays marks 0 m' (read_expression (l - 1) image (at + 1))
+  pub store_returns : (c a : ℕ) (m : Fault) (i j : WalkedExpression) → op_of (get_or image at 0) ≡ 1 → c ≡ arrays → a ≡ target_of (get_or image at 0)
+      → m ≡ least best (fault_if (leb c a) 6 at)
+      → i ≡ operand_walked types arrays marks 0 m (read_expression (l - 1) image (at + 1))
       → j ≡ operand_walked types arrays marks 0 i.best (read_expression (l - 1) image i.next) → Returned (walk j.next j.best)
   unfolding statement_walked operand_walked statement_sort_faults
-  store_returns c a w x m m' i j k hc ha h hw hx h' q p = let (e, n, f, o, r, s, z) = open_store l params me image at t k in go e n f o r s z
+  store_returns c a m i j k hc ha h q p = let (e, n, f, o, r, s, z) = open_store l params me image at t k in go e n f o r s z
     where
       go : (e : Expression) (n : ℕ) (f : Expression) (o : ℕ) → read_expression (l - 1) image (at + 1) ≡ got e n
           → read_expression (l - 1) image n ≡ got f o → read_statement l params me image at ≡ got (store (target_of (get_or image at 0)) e f) o
           → Returned (walk j.next j.best)
-      go e n f o r s z = rw (z, p, q, r, s, h', h, hx, hw, hc, ha) (simp least_append)
+      go e n f o r s z = rw (z, p, q, r, s, h, hc, ha) (simp least_append)
 
   pub call_returns : (f x given want have : ℕ) (m b : Fault) (w : Walked) → op_of (get_or image at 0) ≡ 5
       → f ≡ called_of (get_or image at 0) → x ≡ result_of (get_or image at 0)

@@ -21,8 +21,8 @@ abbrev pub target_noted : List ℕ → List ℕ → ℕ → ℕ → Fault → Fa
 target_noted types marks x at best =
     least (least best (fault_if (leb (length types) x) 6 at)) (fault_if (not (eqb (get_or marks x 0) 0)) 8 at)
 
--- over the type words of the variables, the array words, the marks
-module _ (types arrays marks : List ℕ) where
+-- over the type words of the variables, the number of arrays, the marks
+module _ (types : List ℕ) (arrays : ℕ) (marks : List ℕ) where
   unfoldable pub expression_walked : Fault → Parse Expression → WalkedExpression
   expression_walked best (got e n) = found (sort_in types e) n (least best (sort_faults types arrays marks e))
   expression_walked best (refused n p) = found 0 0 best
@@ -38,7 +38,7 @@ module _ (types arrays marks : List ℕ) where
   arguments_walked callee k best (refused n p) = walk 0 best
 
 -- over the image's procedures too, and the procedure whose body it is
-module _ (ps : List Procedure) (types arrays marks : List ℕ) (scope : Scope) where
+module _ (ps : List Procedure) (types : List ℕ) (arrays : ℕ) (marks : List ℕ) (scope : Scope) where
   unfoldable pub statement_walked : ℕ → Fault → Parse Statement → Walked
   statement_walked p best (got s n) =
       walk n (least best (statement_sort_faults ps scope.parameters types scope.result arrays marks p s))

@@ -6,14 +6,14 @@ ghost use Rattle.definitions.specs.Faults.{least, fault_if};
 ghost use Rattle.definitions.specs.Operators.{unary_operand, unary_result};
 ghost use Rattle.definitions.specs.Sorts.{sort_of, wrong_sort};
 ghost use Rattle.image_words.specs.Read.{ExpressionRead};
-ghost use Rattle.tables.specs.Table.{arrays_in};
+ghost use Rattle.tables.specs.Table.{array_count_in};
 ghost use Rattle.sorts.specs.Walk.{expression_walked, operand_walked};
 
 use super::{BOOLEAN, OUTSIDE, UNKNOWN, WORD, WalkedExpression};
 use definitions::Fault;
 use image_words::lists::{element, wide};
 use image_words::{kind, kinds, payload, type_sort};
-use tables::{SIZE, array_words};
+use tables::{SIZE, array_count};
 
 // A variable's sort.
 pub fn variable_sort(types: &[u32], x: u32) -> u32
@@ -83,7 +83,7 @@ pub fn check_operand(
     best: Fault,
 ) -> WalkedExpression
     requires { ExpressionRead level image.now at }
-    ensures { result ≡ operand_walked types.now (arrays_in table.now) marks.now want best
+    ensures { result ≡ operand_walked types.now (array_count_in table.now) marks.now want best
         (read_expression level image.now at) }
 {
     let e = check_expression(image, table, types, marks, at, level, best);
@@ -107,7 +107,7 @@ fn check_expression(
     best: Fault,
 ) -> WalkedExpression
     requires { ExpressionRead level image.now at }
-    ensures { result ≡ expression_walked types.now (arrays_in table.now) marks.now best
+    ensures { result ≡ expression_walked types.now (array_count_in table.now) marks.now best
         (read_expression level image.now at) }
 {
     let w = image[at];
@@ -166,10 +166,10 @@ fn check_cell(
     best: Fault,
 ) -> WalkedExpression
     requires { ExpressionRead level image.now at × (kind_of (get_or image.now at 0) ≡ 11) }
-    ensures { result ≡ expression_walked types.now (arrays_in table.now) marks.now best
+    ensures { result ≡ expression_walked types.now (array_count_in table.now) marks.now best
         (read_expression level image.now at) }
 {
-    let named = note_missing(best, array_words(table), payload(image[at]), at);
+    let named = note_missing(best, array_count(table), payload(image[at]), at);
     let i = check_operand(image, table, types, marks, WORD, at + 1, level - 1, named);
     let found = i.best;
     WalkedExpression {
@@ -190,7 +190,7 @@ fn check_unary(
     best: Fault,
 ) -> WalkedExpression
     requires { ExpressionRead level image.now at × (kind_of (get_or image.now at 0) ≡ 12) }
-    ensures { result ≡ expression_walked types.now (arrays_in table.now) marks.now best
+    ensures { result ≡ expression_walked types.now (array_count_in table.now) marks.now best
         (read_expression level image.now at) }
 {
     let op = payload(image[at]);
@@ -216,7 +216,7 @@ fn check_binary(
     best: Fault,
 ) -> WalkedExpression
     requires { ExpressionRead level image.now at × (kind_of (get_or image.now at 0) ≡ 13) }
-    ensures { result ≡ expression_walked types.now (arrays_in table.now) marks.now best
+    ensures { result ≡ expression_walked types.now (array_count_in table.now) marks.now best
         (read_expression level image.now at) }
 {
     let op = payload(image[at]);
@@ -244,7 +244,7 @@ fn check_select(
     best: Fault,
 ) -> WalkedExpression
     requires { ExpressionRead level image.now at × (kind_of (get_or image.now at 0) ≡ 14) }
-    ensures { result ≡ expression_walked types.now (arrays_in table.now) marks.now best
+    ensures { result ≡ expression_walked types.now (array_count_in table.now) marks.now best
         (read_expression level image.now at) }
 {
     let inner = level - 1;

@@ -7,7 +7,7 @@ ghost use Rattle.definitions.specs.Sorts.{loop_fault};
 ghost use Rattle.laws.specs.Parses.{ok};
 ghost use Rattle.laws.specs.ImageIn.{procedures_in};
 ghost use Rattle.image_words.specs.Read.{StatementRead, arguments_at};
-ghost use Rattle.tables.specs.Table.{arrays_in, params_in};
+ghost use Rattle.tables.specs.Table.{array_count_in, params_in};
 ghost use Rattle.tables.specs.Looking.{Listed, procedure_in};
 ghost use Rattle.sorts.specs.Walk.{statement_walked, arguments_walked, target_noted};
 
@@ -15,8 +15,8 @@ use super::expressions::{check_operand, note_missing, note_wrong_sort, variable_
 use super::{BOOLEAN, INSIDE, ORDINARY, Scope, WORD, Walked};
 use definitions::Fault;
 use image_words::lists::{element, wide};
-use image_words::{array_fixed, called, result, target, type_secret, type_sort};
-use tables::{SIZE, array, array_words, signatures};
+use image_words::{called, result, target, type_secret, type_sort};
+use tables::{SIZE, array_count, signatures};
 
 // A variable that a statement writes: there has to be one, and no loop variable is written.
 fn note_write(types: &[u32], marks: &[u32; 256], x: u32, at: usize, best: Fault) -> Fault
@@ -58,7 +58,7 @@ pub fn check_assign(
     best: Fault,
 ) -> Walked
     requires { StatementRead level (params_in table.now) scope.me image.now at × (op_of (get_or image.now at 0) ≡ 0) }
-    ensures { result ≡ statement_walked (procedures_in image.now) types.now (arrays_in table.now) marks.now scope at best
+    ensures { result ≡ statement_walked (procedures_in image.now) types.now (array_count_in table.now) marks.now scope at best
         (read_statement level (params_in table.now) scope.me image.now at) }
 {
     let x = target(image[at]);
@@ -83,13 +83,11 @@ pub fn check_store(
     best: Fault,
 ) -> Walked
     requires { StatementRead level (params_in table.now) scope.me image.now at × (op_of (get_or image.now at 0) ≡ 1) }
-    ensures { result ≡ statement_walked (procedures_in image.now) types.now (arrays_in table.now) marks.now scope at best
+    ensures { result ≡ statement_walked (procedures_in image.now) types.now (array_count_in table.now) marks.now scope at best
         (read_statement level (params_in table.now) scope.me image.now at) }
 {
-    let a = target(image[at]);
-    let named = note_missing(best, array_words(table), a, at);
-    let free = faults::note(named, array_fixed(array(table, a)), 30, at);
-    let i = check_operand(image, table, types, marks, WORD, at + 1, level - 1, free);
+    let named = note_missing(best, array_count(table), target(image[at]), at);
+    let i = check_operand(image, table, types, marks, WORD, at + 1, level - 1, named);
     let e = check_operand(image, table, types, marks, WORD, i.next, level - 1, i.best);
     let found = e.best;
     Walked {
@@ -109,7 +107,7 @@ pub fn check_return(
     best: Fault,
 ) -> Walked
     requires { StatementRead level (params_in table.now) scope.me image.now at × (op_of (get_or image.now at 0) ≡ 4) }
-    ensures { result ≡ statement_walked (procedures_in image.now) types.now (arrays_in table.now) marks.now scope at best
+    ensures { result ≡ statement_walked (procedures_in image.now) types.now (array_count_in table.now) marks.now scope at best
         (read_statement level (params_in table.now) scope.me image.now at) }
 {
     let want = type_sort(scope.result);
@@ -133,7 +131,7 @@ fn check_arguments(
     best: Fault,
 ) -> Walked
     requires { Listed image.now table.now f × (ok (arguments_at (get_or (params_in table.now) f 0) level image.now at) ≡ true) }
-    ensures { result ≡ arguments_walked types.now (arrays_in table.now) marks.now (procedure_in image.now f).types 0 best
+    ensures { result ≡ arguments_walked types.now (array_count_in table.now) marks.now (procedure_in image.now f).types 0 best
         (arguments_at (get_or (params_in table.now) f 0) level image.now at) }
 {
     let count = tables::parameters(table, f);
@@ -165,7 +163,7 @@ pub fn check_call(
     best: Fault,
 ) -> Walked
     requires { StatementRead level (params_in table.now) scope.me image.now at × (op_of (get_or image.now at 0) ≡ 5) × Listed image.now table.now scope.me }
-    ensures { result ≡ statement_walked (procedures_in image.now) types.now (arrays_in table.now) marks.now scope at best
+    ensures { result ≡ statement_walked (procedures_in image.now) types.now (array_count_in table.now) marks.now scope at best
         (read_statement level (params_in table.now) scope.me image.now at) }
 {
     let w = image[at];

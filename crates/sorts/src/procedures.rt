@@ -3,7 +3,7 @@ ghost use Rattle.std.specs.Prelude.{◌≡◌};
 ghost use Rattle.definitions.specs.Faults.{no_fault, least};
 ghost use Rattle.definitions.specs.Sorts.{procedure_sort_faults, image_sort_faults};
 ghost use Rattle.laws.specs.ImageIn.{image_in, procedures_in};
-ghost use Rattle.tables.specs.Table.{arrays_in, Known};
+ghost use Rattle.tables.specs.Table.{array_count_in, Known};
 ghost use Rattle.tables.specs.Looking.{Listed, procedure_in};
 
 use super::marks::mark_block;
@@ -19,7 +19,7 @@ use tables::signatures::result_type;
 // The procedure numbered `me`: its loop variables are marked before its statements are judged.
 fn check_procedure(image: &[u32], table: &[u32; SIZE], me: u32, best: Fault) -> Fault
     requires { Listed image.now table.now me }
-    ensures { result ≡ least best (procedure_sort_faults (procedures_in image.now) (arrays_in table.now) (procedure_in image.now me)) }
+    ensures { result ≡ least best (procedure_sort_faults (procedures_in image.now) (array_count_in table.now) (procedure_in image.now me)) }
 {
     let level = largest_level(form(element(image, 0)));
     let result = result_type(image, table, me);

@@ -4,7 +4,7 @@ ghost use Rattle.definitions.specs.Image.{op_of};
 ghost use Rattle.definitions.specs.Reading.{read_statement, read_block};
 ghost use Rattle.laws.specs.ImageIn.{procedures_in};
 ghost use Rattle.image_words.specs.Read.{StatementRead, BlockRead};
-ghost use Rattle.tables.specs.Table.{arrays_in, params_in};
+ghost use Rattle.tables.specs.Table.{array_count_in, params_in};
 ghost use Rattle.tables.specs.Looking.{Listed};
 ghost use Rattle.sorts.specs.Walk.{statement_walked, block_walked};
 
@@ -29,7 +29,7 @@ pub fn check_block(
     best: Fault,
 ) -> Walked
     requires { BlockRead level (params_in table.now) scope.me image.now at × Listed image.now table.now scope.me }
-    ensures { (result ≡ block_walked (procedures_in image.now) types.now (arrays_in table.now) marks.old scope best
+    ensures { (result ≡ block_walked (procedures_in image.now) types.now (array_count_in table.now) marks.old scope best
         (read_block level (params_in table.now) scope.me image.now at)) × (marks.new ≡ marks.old) }
 {
     let count = payload(image[at]);
@@ -62,7 +62,7 @@ fn check_statement(
     best: Fault,
 ) -> Walked
     requires { StatementRead level (params_in table.now) scope.me image.now at × Listed image.now table.now scope.me }
-    ensures { (result ≡ statement_walked (procedures_in image.now) types.now (arrays_in table.now) marks.old scope at best
+    ensures { (result ≡ statement_walked (procedures_in image.now) types.now (array_count_in table.now) marks.old scope at best
         (read_statement level (params_in table.now) scope.me image.now at)) × (marks.new ≡ marks.old) }
 {
     let o = op(image[at]);
@@ -96,7 +96,7 @@ fn check_if(
     best: Fault,
 ) -> Walked
     requires { StatementRead level (params_in table.now) scope.me image.now at × (op_of (get_or image.now at 0) ≡ 2) × Listed image.now table.now scope.me }
-    ensures { (result ≡ statement_walked (procedures_in image.now) types.now (arrays_in table.now) marks.old scope at best
+    ensures { (result ≡ statement_walked (procedures_in image.now) types.now (array_count_in table.now) marks.old scope at best
         (read_statement level (params_in table.now) scope.me image.now at)) × (marks.new ≡ marks.old) }
 {
     let c = check_operand(image, table, types, marks, BOOLEAN, at + 1, level - 1, best);
@@ -117,7 +117,7 @@ fn check_for(
     best: Fault,
 ) -> Walked
     requires { StatementRead level (params_in table.now) scope.me image.now at × (op_of (get_or image.now at 0) ≡ 3) × Listed image.now table.now scope.me }
-    ensures { (result ≡ statement_walked (procedures_in image.now) types.now (arrays_in table.now) marks.old scope at best
+    ensures { (result ≡ statement_walked (procedures_in image.now) types.now (array_count_in table.now) marks.old scope at best
         (read_statement level (params_in table.now) scope.me image.now at)) × (marks.new ≡ marks.old) }
 {
     let x = target(image[at]);

@@ -5,7 +5,7 @@ use Rattle.definitions.specs.Choice.{pick}
 use Rattle.definitions.specs.Image.{form_of, arrays_of, procedures_of, header_word, largest_image, mode_of, parameters_of, locals_of}
 use Rattle.definitions.specs.Image.{procedure_word, type_word, Procedure, Image}
 use Rattle.definitions.specs.Encoding.{image_words}
-use Rattle.definitions.specs.Reading.{Parse, got, refused, and_then, on_word, read_block, read_types, read_arrays, tables_at}
+use Rattle.definitions.specs.Reading.{Parse, got, refused, and_then, on_word, read_block, read_types, read_arrays}
 use Rattle.definitions.specs.Checking.{without_fault}
 use Rattle.statements.specs.Limits.{FitsImage}
 use Rattle.statements.specs.FormerAnswers.{AnswersAs}
@@ -27,7 +27,7 @@ module _ (largest : ℕ → ℕ) where
   read_rest_by header image = and_then (read_arrays (arrays_of header) 0 image 1)
       (λ ws n. and_then (read_procedures_by (procedures_of header) (form_of header) (replicate 32 0) 0 image n)
       (λ ps m. pick (eqb m (length image))
-      (got (record { form = form_of header; arrays = ws; tables = tables_at ws image 1; procedures = ps }) m)
+      (got (record { form = form_of header; arrays = ws; procedures = ps }) m)
       (refused 4 m)))
 
   unfoldable pub read_image_by : Bool → List ℕ → Parse Image

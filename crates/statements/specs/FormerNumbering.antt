@@ -101,7 +101,6 @@ unfoldable pub former_image : Image → Image
 former_image image = record {
   form = 1;
   arrays = image.arrays;
-  tables = image.tables;
   procedures = map (λ p. former_procedure image.procedures image.arrays p) image.procedures;
 }
 

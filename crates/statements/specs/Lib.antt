@@ -7,4 +7,3 @@ pub mod Comparisons
 pub mod StepBounds
 pub mod Limits
 pub mod Statements
-pub mod FixedTables

@@ -7,7 +7,7 @@ use Rattle.std.specs.Prelude.{ℕ, suc, ◌+◌, ◌-◌, ◌≤◌, ◌<◌, tr
 use Rattle.definitions.specs.Choice.{pick}
 use Rattle.definitions.specs.Image.{Expression, constant, boolean, variable, cell, unary, binary, select, Statement}
 use Rattle.definitions.specs.Image.{assign, store, conditional, loop, return, call, Block, done, sequence, Procedure}
-use Rattle.definitions.specs.Image.{Image, procedure_at, largest_level, array_length, array_word, table_count, type_word}
+use Rattle.definitions.specs.Image.{Image, procedure_at, largest_level, array_length, array_word, type_word}
 
 -- ---- Expressions, with the levels that there are for them
 
@@ -111,8 +111,6 @@ pub record FitsImage (i : Image) : Type 0 where
   pub form_fits : i.form < 2
   pub few_arrays : length i.arrays ≤ 16
   pub arrays_fit : FitsArrays 0 i.arrays
-  -- Document 02, wish 5: "as many raw words as its length follow at once"
-  pub tables_fit : length i.tables ≡ table_count i.arrays
   pub some_procedure : 1 ≤ length i.procedures
   pub few_procedures : length i.procedures ≤ 32
   pub procedures_fit : FitsProcedures i.form (arity_of i.procedures) 0 i.procedures

@@ -1,7 +1,7 @@
 -- What the three properties speak of (crates/promises/specs/Promises.antt): which images the rules admit and why one is refused, when each request is
 -- refused and what it leaves, when a stop falls; when two calls end alike; machines, lists of requests, what may differ and what is the same.
 -- There is no proof here. Every function is on lent bytes, as the host has them (Host, of the definitions). Assumes nothing.
-use Rattle.std.specs.Prelude.{ℕ, ◌+◌, ◌*◌, ◌/◌, ◌^◌, ◌≤◌, ◌<◌, Bool, true, false, ◌&&◌, ◌||◌, List, [], ◌∷◌, ◌++◌, ◌⊎◌, ◌≡◌, ltb, eqb, length, get_or, take, drop}
+use Rattle.std.specs.Prelude.{ℕ, ◌+◌, ◌*◌, ◌/◌, ◌^◌, ◌≤◌, ◌<◌, Bool, true, false, ◌&&◌, ◌||◌, List, [], ◌∷◌, ◌++◌, ◌⊎◌, ◌≡◌, ltb, eqb, length, get_or, take, drop, replicate}
 use Rattle.definitions.specs.Choice.{pick}
 use Rattle.definitions.specs.declared.Fault.{Fault}
 use Rattle.definitions.specs.declared.Answer.{Answer}
@@ -12,17 +12,17 @@ use Rattle.definitions.specs.declared.Compiled.{Compiled}
 use Rattle.definitions.specs.declared.Compiled.TheVariants.{Written, Refused as CompileRefused}
 use Rattle.definitions.specs.declared.Compared.{Compared}
 use Rattle.definitions.specs.declared.Compared.TheVariants.{Agree, Part}
-use Rattle.definitions.specs.Bytes.{words_of, word4, bytes_of}
-use Rattle.definitions.specs.Image.{kind_of, payload_of, op_of, target_of, arrays_of, array_length, array_secret, array_place, type_secret}
-use Rattle.definitions.specs.Image.{Procedure, Image, guarded, procedure_at, cell_count, base_of, start_cells, largest_image}
+use Rattle.definitions.specs.Bytes.{words_of, word4}
+use Rattle.definitions.specs.Image.{kind_of, payload_of, op_of, target_of, arrays_of, array_length, array_secret, type_secret}
+use Rattle.definitions.specs.Image.{Procedure, Image, guarded, procedure_at, cell_count, base_of, largest_image}
 use Rattle.definitions.specs.Encoding.{image_words}
 use Rattle.definitions.specs.Reading.{Parse, got, refused, read_image}
 use Rattle.definitions.specs.Faults.{fault, before}
 use Rattle.definitions.specs.Sorts.{image_sort_faults}
 use Rattle.definitions.specs.Labels.{image_label_faults}
 use Rattle.definitions.specs.Compiling.{compiled_image, fits}
-use Rattle.definitions.specs.Requests.{Called, has_cell, fixed_array}
-use Rattle.definitions.specs.Host.{whole_words, load_bytes, clear_bytes, poke_bytes, peek_bytes, call_bytes, preview_bytes, check_bytes, compile_bytes}
+use Rattle.definitions.specs.Requests.{Called, has_cell}
+use Rattle.definitions.specs.Host.{whole_words, load_bytes, clear_bytes, poke_bytes, peek_bytes, call_bytes, preview_bytes, check_bytes}
 use Rattle.statements.specs.Limits.{FitsImage}
 
 -- ======== Property 1
@@ -34,7 +34,7 @@ Iff A B = (A → B) × (B → A)
 -- ---- Which images the rules admit
 
 -- Words that the rules admit, said of a tree and not of how it is read. They came as whole words, and are those that spell the tree. The tree keeps
--- the limits (Limits), and has no more words than its form allows: none of 1 to 5. It has no fault of 6 to 8 and 30, and none of 9 to 13. The places in
+-- the limits (Limits), and has no more words than its form allows: none of 1 to 5. It has no fault of 6 to 8 and none of 9 to 13. The places in
 -- the tree may be any.
 pub record Admissible (whole : Bool) (words : List ℕ) (tree : Image) : Type 0 where
   pub in_words : whole ≡ true
@@ -61,7 +61,7 @@ pub record Lowest (f : Fault) (faults : List Fault) : Type 0 where
   pub listed : Among f faults
   pub none_before : (g : Fault) → Among g faults → before g f ≡ false
 
--- Why words are refused with a number and a place. "Reading stops at its first fault", 1 to 5; what was read has a lowest fault of 6 to 8 and 30; or it has
+-- Why words are refused with a number and a place. "Reading stops at its first fault", 1 to 5; what was read has a lowest fault of 6 to 8; or it has
 -- none of those, and a lowest fault of 9 to 13.
 pub data Refuses (whole : Bool) (words : List ℕ) (k p : ℕ) : Type 0 where
   reading_refused : read_image whole words ≡ refused k p → Refuses whole words k p
@@ -99,15 +99,6 @@ pub record WithCell (image cells : List ℕ) (a i : ℕ) (tree : Image) : Type 0
   pub loadable : Loadable image cells tree
   pub present : has_cell tree a i ≡ true
 
--- Document 02, wish 5, a poke: "30, .. a poke into a fixed array; .. for a poke after 17".
-pub data NotPoked (image cells : List ℕ) (a i : ℕ) : ℕ → ℕ → Type 0 where
-  no_cell : (k p : ℕ) → NoCell image cells a i k p → NotPoked image cells a i k p
-  fixed_cell_lem : (tree : Image) → WithCell image cells a i tree → fixed_array tree a ≡ true → NotPoked image cells a i 30 0
-
-pub record Pokable (image cells : List ℕ) (a i : ℕ) (tree : Image) : Type 0 where
-  pub cell : WithCell image cells a i tree
-  pub free : fixed_array tree a ≡ false
-
 -- Call and preview: then "17 no such procedure"; then "18 argument count". "Bytes left over after the last whole word are ignored".
 pub data NotCalled (image cells : List ℕ) (f : ℕ) (arguments : List ℕ) : ℕ → ℕ → Type 0 where
   unready_for_call : (k p : ℕ) → NotReady image cells k p → NotCalled image cells f arguments k p
@@ -133,9 +124,9 @@ pub record Exactly {A : Type 0} (refusal : ℕ → ℕ → A) (answer : A) (Not 
 
 -- ---- What a request leaves
 
--- lent cells: those of the image 0, or, where they are fixed, their table words; the bytes behind them as before
-abbrev pub cleared : Image → List ℕ → List ℕ
-cleared tree cells = bytes_of (start_cells tree.arrays tree.tables) ++ drop (4 * cell_count tree.arrays) cells
+-- lent cells: the first n words 0, the bytes behind them as before
+abbrev pub cleared : ℕ → List ℕ → List ℕ
+cleared n cells = replicate (4 * n) 0 ++ drop (4 * n) cells
 
 -- lent cells: word n set, the other bytes as before
 abbrev pub stored : ℕ → ℕ → List ℕ → List ℕ
@@ -188,7 +179,7 @@ pub data NamesArray (w : ℕ) : ℕ → Type 0 where
   in_store : kind_of w ≡ 6 → op_of w ≡ 1 → NamesArray w (target_of w)
 
 -- "23 index beyond the array", at a place of the image's words: the last entry is the index ("4 index"), and the array that the word there names,
--- one of the image's, is no longer than it. The word of array a stands behind the header and what belongs to the arrays before it.
+-- one of the image's, is no longer than it. The word of array a stands behind the header and those of the arrays before it.
 pub record BeyondArray (words : List ℕ) (place : ℕ) (entries : List ℕ) : Type 0 where
   pub array : ℕ
   pub index : ℕ
@@ -197,7 +188,7 @@ pub record BeyondArray (words : List ℕ) (place : ℕ) (entries : List ℕ) : T
   pub within : place < length words
   pub named : NamesArray (get_or words place 0) array
   pub there : array < arrays_of (get_or words 0 0)
-  pub beyond : array_length (get_or words (array_place words 1 array) 0) ≤ index
+  pub beyond : array_length (get_or words (1 + array) 0) ≤ index
 
 -- "24 divisor 0", at a place of the image's words: the last entry is the divisor ("6 divisor"), and it is 0
 pub record DivisorZero (words : List ℕ) (place : ℕ) (entries : List ℕ) : Type 0 where
@@ -223,10 +214,6 @@ pub record Compilable (image out : List ℕ) (tree : Image) : Type 0 where
   pub source : tree.form ≡ 0
   pub within : fits (compiled_image tree) ≡ true
   pub room : 4 * length (image_words (compiled_image tree)) ≤ length out
-
--- what the compiler wrote, where it answers that it wrote n words: the first of its output
-abbrev pub wrote : List ℕ → List ℕ → ℕ → List ℕ
-wrote image out n = take (4 * n) (compile_bytes image out).1
 
 -- ---- When two calls end alike
 
@@ -344,7 +331,7 @@ responses m (r ∷ rs) = turn m r ∷ responses (turn m r).after rs
 
 -- what stands for an image where none is in force, or where bytes spell none: no array, no procedure, nothing secret; its form is of no account
 abbrev pub no_image : Image
-no_image = record { form = 1; arrays = []; tables = []; procedures = [] }
+no_image = record { form = 1; arrays = []; procedures = [] }
 
 unfoldable pub tree_of : Parse Image → Image
 tree_of (got image n) = image

@@ -27,16 +27,6 @@ pub array_none : (t : List ℕ) (a w n : ℕ) → w ≡ a → n ≡ get_or t 32 
 array_none t a w n e c h =
     let l = length-take (get_or t 32 0) t in sym (get_or-eq_default (arrays_in t) 0 (omega arith))
 
--- how many of the first n words there are
-pub few_words : (t : List ℕ) (n l : ℕ) → l ≡ length t → n ≤ l → n ≡ length (take n t)
-few_words t n l e h = let z = length-take n t in omega arith
-
-pub many_words : (t : List ℕ) (n l m : ℕ) → l ≡ length t → l < n → m ≡ length t → m ≡ length (take n t)
-many_words t n l m e h f = let z = length-take n t in omega arith
-
-pub array_words : (t : List ℕ) (n r : ℕ) → n ≡ get_or t 32 0 → r ≡ length (take n t) → r ≡ length (arrays_in t)
-array_words t n r e h = h ∙ ap (λ (k : ℕ). length (take k t)) e
-
 -- three stores at a number that was cast
 pub stored : (t : List ℕ) (i j k n m x y z : ℕ) → m ≡ n → set (set (set t (i + m) x) (j + m) y) (k + m) z ≡ set (set (set t (i + n) x) (j + n) y) (k + n) z
 stored t i j k n m x y z e = ap (λ (o : ℕ). set (set (set t (i + o) x) (j + o) y) (k + o) z) e

@@ -3,7 +3,7 @@ use image_words::lists::{element, put, wide};
 
 pub mod signatures; // what a call has to know of its procedure
 
-ghost use Rattle.std.specs.Prelude.{◌≡◌, ◌+◌, ◌<◌, get_or, set, length, take};
+ghost use Rattle.std.specs.Prelude.{◌≡◌, ◌+◌, ◌<◌, get_or, set, length};
 ghost use Rattle.tables.specs.Table.{array_count_in, arrays_in, base_in, place_in, body_in, params_in};
 
 // 16 array words, where the cells of each array begin, the number of arrays, and of 32 procedures the places of their words, the places of
@@ -25,23 +25,6 @@ pub fn array_count(table: &[u32; SIZE]) -> usize
     ensures { (result ≡ array_count_in table.now) × (result < 4294967296) }
 {
     wide(table[COUNT])
-}
-
-// How many of the first n words there are.
-fn front(list: &[u32], n: usize) -> usize
-    ensures { result ≡ length (take n list.now) }
-{
-    if n <= list.len() {
-        return n;
-    }
-    list.len()
-}
-
-// The number of array words in the table, which an image that was read has as many of as arrays.
-pub fn array_words(table: &[u32; SIZE]) -> usize
-    ensures { result ≡ length (arrays_in table.now) }
-{
-    front(table, array_count(table))
 }
 
 // The word of an array, 0 where there is none.

@@ -29,7 +29,7 @@ pub extern "C" fn tinesage_describe(image: &[u8], out: &mut [u8], answer: &mut [
     answers::put_compiled(answer, a);
 }
 
-// Loads an image: its cells are 0 afterwards, or hold their table's words where they are fixed.
+// Loads an image: its cells are 0 afterwards.
 #[unsafe(no_mangle)]
 pub extern "C" fn tinesage_load(image: &[u8], cells: &mut [u8], answer: &mut [u8])
     ensures { Loads image.now cells.old answer.old cells.new answer.new }
@@ -38,7 +38,7 @@ pub extern "C" fn tinesage_load(image: &[u8], cells: &mut [u8], answer: &mut [u8
     answers::put_answer(answer, a);
 }
 
-// Sets the image's cells as a load does.
+// Sets the image's cells to 0.
 #[unsafe(no_mangle)]
 pub extern "C" fn tinesage_clear(image: &[u8], cells: &mut [u8], answer: &mut [u8])
     ensures { Clears image.now cells.old answer.old cells.new answer.new }

@@ -1,6 +1,6 @@
 //! Statements and blocks of a random program.
 
-use super::{ArrayShape, OpenLoop, Slip, Spot, Writer, PUBLIC_WORD};
+use super::{OpenLoop, Slip, Spot, Writer, PUBLIC_WORD};
 use crate::image::{Form, Label, Type};
 use crate::operators::{Binary, Sort};
 use crate::words;
@@ -131,12 +131,7 @@ impl Writer<'_> {
 
     fn store(&mut self, spot: Spot) -> Option<Label> {
         let least = self.least_label(spot.label());
-        let any_fixed = self.arrays.iter().any(|array| array.fixed);
-        let into_fixed = any_fixed && self.slips(Slip::FixedArray);
-        let fits = |array: &u32| {
-            let ArrayShape { label, fixed, .. } = self.arrays[*array as usize];
-            fixed == into_fixed && (fixed || label >= least)
-        };
+        let fits = |array: &u32| self.arrays[*array as usize].label >= least;
         let fitting: Vec<u32> = (0..self.arrays.len() as u32).filter(fits).collect();
         let number = self.random.pick(&fitting)?;
         let array = self.arrays[number as usize];

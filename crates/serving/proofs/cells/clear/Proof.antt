@@ -1,6 +1,7 @@
 -- `serving::cells::clear` meets its contract. Assumes nothing.
+use mathlib.Core.Path.{◌∙◌}
 use native.Mathlib.Omega.{arith}
-use Rattle.serving.proofs.Own.{serve_own, own_starts}
+use Rattle.serving.proofs.Own.{serve_own}
 use Rattle.serving.proofs.Rules.{clear_not, back_asks, clear_done}
 use borrow.Author.Rules.{rules}
 use Rattle.serving.proofs.cells.clear.Statement.{statement}
@@ -12,23 +13,21 @@ clear_spec = let answers = tie.spec
     (λ c. search rules)  -- enum-known-number
     (λ c. search rules)  -- enum-known-own
     -- lent-requires
-    (λ c κs. let the-args = c.before.before.before.before.before.before.before.before.args in let found = c.before.before.before.before.ready-to-serve in
-    let o = serve_own the-args.image.now the-args.cells.now _ _ _ c.before.before.own.given.1 found.ensures.0 found.ensures.1 in (o.few, o.enough))
+    (λ c κs. let the-args = c.before.before.before.before.before.before.before.before.args in let ready-to-serve· = c.before.before.before.before.ready-to-serve in let o = (serve_own the-args.image.now the-args.cells.now _ _ _ c.before.before.own.given.1 ready-to-serve·.ensures.0 ready-to-serve·.ensures.1) in (o.few, o.enough))
     -- clear-requires
-    (λ c κs. let the-args = c.before.before.before.before.before.before.before.before.before.before.args in let found = c.before.before.before.before.before.before.ready-to-serve in
-    let o = serve_own the-args.image.now the-args.cells.now _ _ _ c.before.before.before.before.own.given.1 found.ensures.0 found.ensures.1 in
-    own_starts _ the-args.cells.now _ _ _ o _ c.before.lent.ensures.1)
+    (λ c κs. let the-args = c.before.before.before.before.before.before.before.before.before.args in let ready-to-serve·
+    = c.before.before.before.before.before.ready-to-serve in let o = (serve_own the-args.image.now the-args.cells.now _ _ _ c.before.before.before.own.given.1 ready-to-serve·.ensures.0 ready-to-serve·.ensures.1) in
+    rw c.lent.ensures.1 o.few)
     -- give-back-requires
-    (λ c κs. let the-args = c.before.before.before.before.before.before.before.before.before.before.before.before.args in let found = c.before.before.before.before.before.before.before.before.ready-to-serve in
-    let o = serve_own the-args.image.now the-args.cells.now _ _ _ c.before.before.before.before.before.before.own.given.1 found.ensures.0 found.ensures.1 in
-    back_asks _ _ _ _ _ c.before.before.before.lent.ensures.1 c.before.clear.ensures.kept o.few o.enough)
+    (λ c κs. let the-args = c.before.before.before.before.before.before.before.before.before.before.before.args in let
+    ready-to-serve· = c.before.before.before.before.before.before.before.ready-to-serve in let o = (serve_own the-args.image.now the-args.cells.now _ _ _ c.before.before.before.before.before.own.given.1 ready-to-serve·.ensures.0 ready-to-serve·.ensures.1) in back_asks _ _ _ _ _ c.before.before.lent.ensures.1 c.before.clear.ensures.kept o.few o.enough)
     -- returns
-    (λ c. let the-args = c.before.before.before.before.before.before.before.args in clear_not the-args.image.now the-args.cells.now (λ i. omega (arith, c.before.before.before.before.before.slice-known.given i)) _ _ _ c.before.number.given.1
-    c.before.before.before.ready-to-serve.ensures.0)
+    (λ c. let the-args = c.before.before.before.before.before.before.before.args in clear_not the-args.image.now the-args.cells.now (λ i. omega (arith, c.before.before.before.before.before.slice-known.given i)) _ _ _ c.before.number.given.1 c.before.before.before.ready-to-serve.ensures.0)
     (λ c. search rules)  -- same-length
     -- returns-2
-    (λ c. let the-args = c.before.before.before.before.before.before.before.before.before.before.before.before.before.before.before.args in let found = c.before.before.before.before.before.before.before.before.before.before.before.ready-to-serve in
-    let o = serve_own the-args.image.now the-args.cells.now _ _ _ c.before.before.before.before.before.before.before.before.before.own.given.1 found.ensures.0 found.ensures.1 in
-    clear_done the-args.image.now the-args.cells.now _ (λ i. omega (arith, c.before.before.before.before.before.before.before.before.before.before.before.before.before.slice-known.given i)) _ _ c.before.before.before.before.before.before.lent.ensures.0 c.before.before.before.before.before.before.lent.ensures.1 _ _ _
-    c.before.before.give-back.ensures.0 c.before.before.give-back.ensures.1 o c.before.before.before.before.clear.ensures)
+    (λ c. let the-args = c.before.before.before.before.before.before.before.before.before.before.before.before.before.before.args in let give-back· = c.before.before.give-back in let lent· = c.before.before.before.before.before.lent in let ready-to-serve· = c.before.before.before.before.before.before.before.before.before.before.ready-to-serve in let o = (serve_own the-args.image.now the-args.cells.now _ _ _ c.before.before.before.before.before.before.before.before.own.given.1 ready-to-serve·.ensures.0 ready-to-serve·.ensures.1) in
+    clear_done the-args.image.now the-args.cells.now _ (λ i. omega (
+      arith,
+      c.before.before.before.before.before.before.before.before.before.before.before.before.slice-known.given i,
+    )) _ _ lent·.ensures.0 lent·.ensures.1 _ _ _ give-back·.ensures.0 give-back·.ensures.1 o c.before.before.before.before.clear.ensures)
     in tie.close answers

@@ -37,7 +37,7 @@ use Rattle.sorts.proofs.expressions.note_wrong_sort.Reads as note-wrong-sort-rea
 use Rattle.sorts.proofs.expressions.unary_operand.Reads as unary-operand-reads
 use Rattle.sorts.proofs.expressions.unary_result.Reads as unary-result-reads
 use Rattle.sorts.proofs.expressions.variable_sort.Reads as variable-sort-reads
-use Rattle.tables.proofs.array_words.Reads as array-words-reads
+use Rattle.tables.proofs.array_count.Reads as array-count-reads
 use Rattle.sorts.proofs.expressions.+check_binary_check_cell_check_expression_check_operand_check_select_check_unary.{statement}
 use Rattle.sorts.proofs.expressions.+check_binary_check_cell_check_expression_check_operand_check_select_check_unary.Tie.{close}
 
@@ -114,8 +114,8 @@ check-binary-callees t = (
 
 abbrev check-cell-callees : ℕ → check-cell-lts.Claims
 check-cell-callees t = (
-  array-words-reads.Asked,
-  array-words-reads.Learnt,
+  array-count-reads.Asked,
+  array-count-reads.Learnt,
   payload-reads.Asked,
   payload-reads.Learnt,
   note-missing-reads.Asked,
@@ -181,7 +181,7 @@ check-binary-answers t = check-binary-lts.spec (check-binary-callees t) (check-b
 
 check-cell-answers : {M : Type 1} (t : ℕ) → check-cell-lts.Closed (check-cell-callees t) (check-cell-at t) check-cell.Post M
 check-cell-answers t = check-cell-lts.spec (check-cell-callees t) (check-cell-at t) check-cell.Post
-    (λ c κs. search rules) (λ c. search rules) (λ c. search rules)  -- array-words-requires, mul-payload, shared-slice-read-payload
+    (λ c κs. search rules) (λ c. search rules) (λ c. search rules)  -- array-count-requires, mul-payload, shared-slice-read-payload
     (λ c κs. search rules) (λ c κs. search rules) (λ c. search rules)  -- payload-requires, note-missing-requires, add-check-operand
     (λ c. search rules)  -- sub-check-operand
     (λ c κs. search (read_cell, rules))  -- check-operand-requires

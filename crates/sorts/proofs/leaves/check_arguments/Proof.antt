@@ -6,7 +6,7 @@ use mathlib.Core.Bool.{true}
 use Rattle.laws.specs.Parses.{ok}
 use Rattle.image_words.specs.Read.{arguments_at}
 use lib.ListN.{get_or}
-use Rattle.tables.specs.Table.{arrays_in, params_in}
+use Rattle.tables.specs.Table.{array_count_in, params_in}
 use Rattle.tables.specs.Looking.{procedure_in}
 use Rattle.image_words.specs.Rest.{next_argument}
 use Rattle.sorts.specs.Walk.{arguments_walked}
@@ -17,8 +17,8 @@ use Rattle.sorts.proofs.leaves.check_arguments.Tie as tie
 
 abbrev invariant-loop : tie.invariant-loop
 invariant-loop image table types marks f at level count a₀ found₀ k₀ a found k =
-    (k ≤ count) × (ok (arguments_at (count - k) level image a) ≡ true) × (arguments_walked types (arrays_in table) marks
-    (procedure_in image f).types k found (arguments_at (count - k) level image a) ≡ arguments_walked types (arrays_in table) marks
+    (k ≤ count) × (ok (arguments_at (count - k) level image a) ≡ true) × (arguments_walked types (array_count_in table) marks
+    (procedure_in image f).types k found (arguments_at (count - k) level image a) ≡ arguments_walked types (array_count_in table) marks
     (procedure_in image f).types 0 found₀ (arguments_at (get_or (params_in table) f 0) level image at))
 
 abbrev decreases-loop : tie.decreases-loop

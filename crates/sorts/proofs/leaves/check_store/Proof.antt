@@ -9,17 +9,15 @@ use Rattle.sorts.proofs.leaves.check_store.Tie as tie
 
 pub check-store-spec : {M : Type 1} → statement M
 check-store-spec = let answers = tie.spec
-    (λ c. search rules) (λ c. search rules) (λ c κs. search rules)  -- mul-a, shared-slice-read-a, target-requires
-    (λ c κs. search rules) (λ c κs. search rules)  -- array-words-requires, note-missing-requires
-    (λ c κs. search rules) (λ c κs. search rules) (λ c κs. search rules)  -- array-requires, array-fixed-requires, note-requires
-    (λ c. search rules) (λ c. search rules)  -- add-check-operand, sub-check-operand
+    (λ c κs. search rules) (λ c. search rules) (λ c. search rules)  -- array-count-requires, mul-target, shared-slice-read-target
+    (λ c κs. search rules) (λ c κs. search rules) (λ c. search rules)  -- target-requires, note-missing-requires, add-check-operand
+    (λ c. search rules)  -- sub-check-operand
     -- check-operand-requires
-    (λ c κs. let pre· = c.before.before.before.before.before.before.before.before.before.requires in (read_store _ _ _ _ _ pre·.0.read _ refl pre·.1).first)
+    (λ c κs. let pre· = c.before.before.before.before.before.before.requires in (read_store _ _ _ _ _ pre·.0.read _ refl pre·.1).first)
     (λ c. search rules)  -- sub-check-operand-2
     -- check-operand-requires-2
-    (λ c κs. let pre· = c.before.before.before.before.before.before.before.before.before.before.requires in second_fine _ _ _ _ _ _ _ _ _ c.check-operand.ensures (read_store _ _ _ _ _ pre·.0.read _ refl pre·.1))
+    (λ c κs. let pre· = c.before.before.before.before.before.before.before.requires in second_fine _ _ _ _ _ _ _ _ _ c.check-operand.ensures (read_store _ _ _ _ _ pre·.0.read _ refl pre·.1))
     -- returns
-    (λ c. let pre· = c.before.before.before.before.before.before.before.before.before.before.before.before.requires in store_returns _ _ _ _ _ _ _ _
-    _ _ _ pre·.0.read _ _ _ _ _ _ _ _ pre·.1 c.before.before.before.before.before.before.before.array-words.ensures c.before.before.before.before.before.before.before.before.target.ensures.0 c.before.before.before.before.before.before.note-missing.ensures
-    c.before.before.before.before.before.array.ensures c.before.before.before.before.array_fixed.ensures c.before.before.before.note.ensures c.before.before.check-operand.ensures c.before.check-operand2.ensures)
+    (λ c. let pre· = c.before.before.before.before.before.before.before.before.before.requires in store_returns _ _ _ _ _ _ _ _
+    _ _ _ pre·.0.read _ _ _ _ _ pre·.1 c.before.before.before.before.before.before.Array-count.ensures.0 c.before.before.before.before.target.ensures.0 c.before.before.before.note-missing.ensures c.before.before.check-operand.ensures c.before.check-operand2.ensures)
     in tie.close answers

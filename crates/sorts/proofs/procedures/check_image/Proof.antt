@@ -6,7 +6,7 @@ use lib.ListN.{drop}
 use Rattle.definitions.specs.Faults.{least, no_fault}
 use Rattle.definitions.specs.Sorts.{procedure_sort_faults, image_sort_faults}
 use Rattle.laws.specs.ImageIn.{image_in, procedures_in}
-use Rattle.tables.specs.Table.{arrays_in}
+use Rattle.tables.specs.Table.{array_count_in}
 use Rattle.faults.specs.Bodies.{count_known, procedure_listed}
 use Rattle.faults.specs.Rest.{procedures_done, procedures_more}
 use Rattle.sorts.proofs.ProcedureRules.{image_begins}
@@ -16,7 +16,7 @@ use Rattle.sorts.proofs.procedures.check_image.Tie as tie
 
 abbrev invariant-loop : tie.invariant-loop
 invariant-loop image table count found₀ me₀ found me =
-    (me ≤ count) × (least found (flat_map (λ p. procedure_sort_faults (procedures_in image) (arrays_in table) p) (drop me
+    (me ≤ count) × (least found (flat_map (λ p. procedure_sort_faults (procedures_in image) (array_count_in table) p) (drop me
     (procedures_in image))) ≡ least no_fault (image_sort_faults (image_in image)))
 
 abbrev decreases-loop : tie.decreases-loop

@@ -9,7 +9,7 @@ use Rattle.laws.specs.ImageIn.{procedures_in}
 use Rattle.image_words.specs.Read.{statements_at}
 use Rattle.image_words.specs.Parts.{told}
 use Rattle.image_words.specs.StatementParts.{read_if, read_bounds, is_call}
-use Rattle.tables.specs.Table.{arrays_in, params_in}
+use Rattle.tables.specs.Table.{array_count_in, params_in}
 use Rattle.faults.specs.Parts.{put_back}
 use Rattle.image_words.specs.Rest.{block_ready, block_begins, next_statement}
 use Rattle.sorts.specs.Walk.{block_walked}
@@ -87,8 +87,8 @@ check-statement-below t =
 abbrev check-block-Inv-loop : check-block-lts.invariant-loop
 check-block-Inv-loop image table types marks₀ scope at level count a₀ found₀ k₀ marks a found k =
     (k ≤ count) × (marks ≡ marks₀) × (ok (statements_at (count - k) (level - 1) (params_in table) scope.me image a) ≡ true) ×
-    (block_walked (procedures_in image) types (arrays_in table) marks scope found (statements_at (count - k) (level - 1) (params_in
-    table) scope.me image a) ≡ block_walked (procedures_in image) types (arrays_in table) marks₀ scope found₀ (read_block level
+    (block_walked (procedures_in image) types (array_count_in table) marks scope found (statements_at (count - k) (level - 1) (params_in
+    table) scope.me image a) ≡ block_walked (procedures_in image) types (array_count_in table) marks₀ scope found₀ (read_block level
     (params_in table) scope.me image at))
 
 abbrev check-block-μ-loop : check-block-lts.decreases-loop
@@ -147,7 +147,7 @@ check-block-answers t = check-block-lts.spec (check-block-callees t) (check-bloc
       search rules,
       refl,
       block_ready _ _ _ _ _ c.before.before.before.before.requires.1.0.read _ c.payload.ensures.0,
-      ap (λ z. block_walked (procedures_in c.before.before.before.before.args.image.now) c.before.before.before.before.args.types.now (arrays_in c.before.before.before.before.args.table.now) c.before.before.before.before.args.marks.now c.before.before.before.before.args.scope c.before.before.before.before.args.best
+      ap (λ z. block_walked (procedures_in c.before.before.before.before.args.image.now) c.before.before.before.before.args.types.now (array_count_in c.before.before.before.before.args.table.now) c.before.before.before.before.args.marks.now c.before.before.before.before.args.scope c.before.before.before.before.args.best
           z) (block_begins _ _ _ _ _ c.before.before.before.before.requires.1.0.read _ c.payload.ensures.0),
     ))
     (λ c. search rules)  -- sub-check-statement
