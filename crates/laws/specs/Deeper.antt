@@ -101,11 +101,16 @@ kept_then (deeper {p} h (from_got {a} {n} q)) k b = deeper h (b (suc p) (omega a
 kept_then (deeper h (from_refused q)) k b = deeper h (from_refused q)
 
 -- what follows a part that both read alike, since it has no levels
+kept_after_alike : {image : List ℕ} {A B : Type 0} {x y : Parse A} {f g : A → ℕ → Parse B} → Kept image x y → x ≡ y
+    → ((a : A) (n : ℕ) → Kept image (f a n) (g a n)) → Kept image (and_then x f) (and_then y g)
+kept_after_alike (same_part {a} {n}) e k = k a n
+kept_after_alike (same_refusal h) e k = same_refusal h
+kept_after_alike (deeper h (from_got q)) e k = absurd (cc)
+kept_after_alike (deeper h (from_refused q)) e k = deeper h (from_refused q)
+
 pub kept_after : {image : List ℕ} {A B : Type 0} {x : Parse A} {f g : A → ℕ → Parse B} → Kept image x x → ((a : A) (n : ℕ) → Kept image (f a n) (g a n))
     → Kept image (and_then x f) (and_then x g)
-kept_after (same_part {a} {n}) k = k a n
-kept_after (same_refusal h) k = same_refusal h
-kept_after (deeper h (from_refused q)) k = absurd (omega arith)
+kept_after h k = kept_after_alike h refl k
 
 pub kept_word : {A : Type 0} (image : List ℕ) (at : ℕ) (good : ℕ → Bool) (f g : ℕ → Parse A)
     → (at < length image → good (get_or image at 0) ≡ true → Kept image (f (get_or image at 0)) (g (get_or image at 0)))

@@ -62,6 +62,7 @@ least_start (f ∷ fs) b = as_low_trans (least_start fs (lower b f)) (lower_both
 -- no fault of the list goes before the least
 pub least_low : (fs : List Fault) (b f : Fault) → Among f fs → AsLow (least b fs) f
 unfolding least
+least_low [] b f m = elim m [ ]
 least_low (g ∷ fs) b f here = as_low_trans (least_start fs (lower b g)) (lower_both b g).1
 least_low (g ∷ fs) b f (there m) = least_low fs (lower b g) f m
 

@@ -20,8 +20,8 @@ on_join on_none h = h
 on_join (on_more l e g) h = on_more l e (on_join g h)
 
 pub on_split : {image : List ℕ} {at next : ℕ} (xs ys : List ℕ) → On image at (xs ++ ys) next → (m : ℕ) × On image at xs m × On image m ys next
-on_split {image} {at} [] ys h = (at, on_none, h)
-on_split (x ∷ xs) ys (on_more l e h) = let (m, a, b) = on_split xs ys h in (m, on_more l e a, b)
+on_split {at} [] ys h = (at, on_none, h)
+on_split {image} {at} {next} (x ∷ xs) ys (on_more l e h) = let (m, a, b) = on_split {at = at + 1} xs ys h in (m, on_more l e a, b)
 
 pub on_end : {image : List ℕ} {at next : ℕ} {ws : List ℕ} → On image at ws next → at + length ws ≡ next
 on_end {at} on_none = omega arith

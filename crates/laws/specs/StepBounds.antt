@@ -12,8 +12,8 @@ use Rattle.definitions.specs.Image.{Statement, assign, store, conditional, loop,
 use Rattle.definitions.specs.Image.{Procedure, Image, procedure_at}
 use Rattle.definitions.specs.StepBounds.{statement_calls, block_calls, procedure_cost, reaches}
 use Rattle.statements.specs.Statements.{Iff}
-use Rattle.statements.specs.Limits.{FitsStatement, fit_conditional, fit_loop, fit_call}
-use Rattle.statements.specs.Limits.{FitsBlock, fit_block, FitsStatements, fit_sequence, FitsProcedures, more_procedures}
+use Rattle.statements.specs.Limits.{FitsStatement, fit_assign, fit_store, fit_return, fit_conditional, fit_loop, fit_call}
+use Rattle.statements.specs.Limits.{FitsBlock, fit_block, FitsStatements, fit_done, fit_sequence, FitsProcedures, no_procedures, more_procedures}
 use Rattle.statements.specs.Limits.{arity_of, FitsImage}
 use Rattle.statements.specs.StepBounds.{CalledBy, itself_calls, then_calls, else_calls, for_calls, CalledIn, first_calls, later_calls}
 use Rattle.statements.specs.StepBounds.{Reaches, itself, through}
@@ -64,6 +64,9 @@ module _ (test : ℕ → Bool) where
 module _ (arity : ℕ → ℕ) {g me : ℕ} where
   mutual
     lower_statement : {l : ℕ} {s : Statement} → FitsStatement arity me l s → CalledBy g s → g < me
+    lower_statement (fit_assign h e) k = elim k [ ]
+    lower_statement (fit_store h i e) k = elim k [ ]
+    lower_statement (fit_return e) k = elim k [ ]
     lower_statement (fit_conditional x y z) (then_calls k) = lower_block y k
     lower_statement (fit_conditional x y z) (else_calls k) = lower_block z k
     lower_statement (fit_loop h f t b) (for_calls k) = lower_block b k
@@ -73,11 +76,13 @@ module _ (arity : ℕ → ℕ) {g me : ℕ} where
     lower_block (fit_block b) k = lower_statements b k
 
     lower_statements : {l : ℕ} {b : Block} → FitsStatements arity me l b → CalledIn g b → g < me
+    lower_statements fit_done k = elim k [ ]
     lower_statements (fit_sequence s b) (first_calls k) = lower_statement s k
     lower_statements (fit_sequence s b) (later_calls k) = lower_statements b k
 
 lower_procedure : (form : ℕ) (arity : ℕ → ℕ) {me : ℕ} {ps : List Procedure} → FitsProcedures form arity me ps → (f g : ℕ)
     → CalledIn g (procedure_at ps f).body → g < me + f
+lower_procedure form arity no_procedures f g k = elim k [ ]
 lower_procedure form arity (more_procedures a p ps) zero g k = let h = lower_block arity p.body_fits k in omega arith
 lower_procedure form arity (more_procedures a p ps) (suc f) g k = let h = lower_procedure form arity ps f g k in omega arith
 
