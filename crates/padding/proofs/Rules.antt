@@ -15,7 +15,7 @@ use Rattle.laws.specs.WordsOfBytes.{length_words_of}
 use Rattle.padding.specs.Rule.{unpadded}
 use Rattle.padding.specs.Calling.{procedure, budget, trace_length}
 use Rattle.padding.specs.CompiledWords.{compiled_words, image_words_lem}
-use Rattle.padding.specs.Contracts.{AnswersBlock}
+use Rattle.padding.specs.Interface.{AnswersBlock}
 use Rattle.padding.specs.Run.{previewed}
 
 -- cells that are not 16

@@ -19,4 +19,4 @@ pub mod SourceRun
 -- What is promised of it
 pub mod Promise
 -- The contract of the function
-pub mod Contracts
+pub mod Interface

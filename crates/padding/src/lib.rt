@@ -1,6 +1,6 @@
 // The padding check of a login token: how long the content of a block of 16 cells is once its padding is gone, after RFC 5652, section 6.3, by a
 // routine that runs on the library's machine and shows the same trace for every block.
-ghost use Rattle.padding.specs.Contracts.{AnswersBlock};
+ghost use Rattle.padding.specs.Interface.{AnswersBlock};
 
 use definitions::Answer;
 use serving::previews::preview;

@@ -32,7 +32,7 @@ use Rattle.statements.specs.Statements.{Compilable, SameMeaning, Machine, empty,
 use Rattle.statements.specs.Statements.{answer_in, checked_in, compiled_in, compared_in}
 use Rattle.statements.specs.Comparisons.{TraceShows, ProbeRecords, PartAfter}
 use Rattle.statements.specs.StepBounds.{LongestPath, step_bound, NotBounded, Bounded, Straight}
-use Rattle.tinesage.specs.Contracts.{Checks, Compiles, Describes, Loads, Clears, Pokes, Peeks, Calls, Previews, Bounds, Compares}
+use Rattle.tinesage.specs.Interface.{Checks, Compiles, Describes, Loads, Clears, Pokes, Peeks, Calls, Previews, Bounds, Compares}
 use Rattle.statements.specs.Limits.{FitsImage}
 use Rattle.statements.specs.FormerLimits.{read_image_by, former_read_image, From, Kept, WithinLimits, SameAnswers}
 use Rattle.statements.specs.FormerAnswers.{AnswersAs}
@@ -528,14 +528,14 @@ wish_13 =
 -- library, with the routine as a source image. Called as compiled, with the array, procedure, budget and trace length that the crate names, it answers 16
 -- minus n if the last cell is n, from 1 to 16, and the last n cells all hold n, otherwise 255. It records the same trace for every block." The clauses
 -- stand in that crate (padding/specs/Promise.antt), beside the rule, the routine and how it is called; its function answers the rule's number too
--- (padding/specs/Contracts.antt).
+-- (padding/specs/Interface.antt).
 
 pub wish_14 : PaddingCheck
 wish_14 = padding_check
 
 -- ======== The C functions
 -- What a host reads in the 28 bytes or more that it lent for the answer, and what the lent slices hold, are the definition's: so each clause above is
--- one of the C functions, with the left side for the right. The relations are the functions' contracts (tinesage/specs/Contracts.antt).
+-- one of the C functions, with the left side for the right. The relations are the functions' contracts (tinesage/specs/Interface.antt).
 
 pub record Functions : Type 0 where
   pub checks : (image answer answer' : List ℕ) → 28 ≤ length answer → Checks image answer answer' → checked_in answer' ≡ check_bytes image
