@@ -1,4 +1,6 @@
 // The answers in the bytes that a C host lends for them: seven words, most significant byte first, one layout for every answer.
+#![tactic(auto)]
+
 ghost use Rattle.std.specs.Prelude.{◌≡◌, ◌<◌};
 ghost use Rattle.definitions.specs.Host.{layout, answer_words, checked_words, compiled_words, compared_words, answer_bytes};
 ghost use Rattle.results.specs.Named.{answer_place, checked_place, compiled_place};

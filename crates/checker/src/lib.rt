@@ -1,4 +1,6 @@
 // The checker: reads an image, then judges its names, sorts and loop variables, then its labels.
+#![tactic(auto)]
+
 ghost use Rattle.std.specs.Prelude.{◌≡◌, true, length, replicate};
 ghost use Rattle.definitions.specs.Reading.{read_image};
 ghost use Rattle.definitions.specs.Checking.{fault_of, checked};

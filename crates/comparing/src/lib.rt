@@ -1,4 +1,6 @@
 // A board probe's recording, held against the machine's trace: two cursors over lent bytes of any length.
+#![tactic(auto)]
+
 ghost use Rattle.std.specs.Prelude.{◌≡◌, true, ◌+◌, ◌*◌, ◌/◌, ◌<◌, ◌≤◌, length, drop};
 ghost use Rattle.definitions.specs.Bytes.{words_of};
 ghost use Rattle.definitions.specs.Comparing.{observed, observable, probe_entries};
@@ -11,7 +13,7 @@ use image_words::made::word_with;
 use words::word;
 
 // What the next two words of the trace come to.
-#[derive(Drop)]
+#[derive(Clone, Copy)]
 enum Step {
     // on to the next, with so many entries that are equal
     On(usize),

@@ -1,4 +1,6 @@
 // The compiler over an image of form 0 that was read, with the table that reading it left.
+#![tactic(auto)]
+
 ghost use Rattle.std.specs.Prelude.{◌≡◌};
 ghost use Rattle.laws.specs.ImageIn.{image_in, procedures_in};
 ghost use Rattle.tables.specs.Table.{Known};

@@ -1,4 +1,6 @@
 // The labels of expressions and the rc after statements, found by one walk over the words of a part that was read.
+#![tactic(auto)]
+
 ghost use Rattle.std.specs.Prelude.{◌≡◌, length, get_or};
 ghost use Rattle.definitions.specs.Image.{type_secret, array_secret, op_of};
 ghost use Rattle.definitions.specs.Reading.{read_expression, read_statement, read_block};
@@ -13,21 +15,21 @@ use image_words::{array_secret, kind, kinds, op, ops, payload, type_secret};
 use tables::SIZE;
 
 // Whether pc is secret, and rc.
-#[derive(Drop)]
+#[derive(Clone, Copy)]
 pub struct Context {
     pub pc: bool,
     pub rc: bool,
 }
 
 // Whether an expression is secret, and the place after it.
-#[derive(Drop)]
+#[derive(Clone, Copy)]
 pub struct Seen {
     pub secret: bool,
     pub next: usize,
 }
 
 // The rc after a statement or a block, and the place after it.
-#[derive(Drop)]
+#[derive(Clone, Copy)]
 pub struct Passed {
     pub rc: bool,
     pub next: usize,

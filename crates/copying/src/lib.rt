@@ -1,4 +1,6 @@
 // Expressions of the source image copied into the compiled one, their variables renumbered.
+#![tactic(auto)]
+
 ghost use Rattle.std.specs.Prelude.{◌≡◌, true, ◌+◌, ◌≤◌, ◌<◌, length, get_or};
 ghost use Rattle.definitions.specs.Image.{kind_of};
 ghost use Rattle.definitions.specs.Reading.{read_expression};
@@ -13,7 +15,7 @@ use image_words::{kind, kinds, payload};
 use writer::put;
 
 // The place after what was read, and the place after what was written.
-#[derive(Drop)]
+#[derive(Clone, Copy)]
 pub struct Spot {
     pub at: usize,
     pub o: usize,

@@ -1,4 +1,6 @@
 // What an image has, as a host needs it that is to lend cells and arguments: form, arrays, procedures with their types, a word for each.
+#![tactic(auto)]
+
 ghost use Rattle.std.specs.Prelude.{◌≡◌, true, length};
 ghost use mathlib.Core.List.{[], ◌∷◌, flat_map};
 ghost use Rattle.definitions.specs.Choice.{pick};

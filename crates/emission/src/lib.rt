@@ -1,4 +1,6 @@
 // The compiled words of statements and blocks, written from the words of the source.
+#![tactic(auto)]
+
 ghost use Rattle.std.specs.Prelude.{◌≡◌, true, false, List, ℕ, ◌+◌, ◌-◌, ◌≤◌, ◌<◌, length, get_or};
 ghost use Rattle.definitions.specs.Choice.{pick};
 ghost use Rattle.definitions.specs.Image.{op_of};
@@ -23,7 +25,7 @@ use writer::{patch, put};
 
 // Where a walk is: the number of the procedure, whether pc is secret, the variable of the innermost secret arm or the guard, the first
 // variable that moves, RV, which LIVE follows, T of the next level, which E follows, and the temporaries for results of calls.
-#[derive(Drop)]
+#[derive(Clone, Copy)]
 pub struct Scope {
     pub me: u32,
     pub pc: bool,
@@ -36,7 +38,7 @@ pub struct Scope {
 }
 
 // How far a walk has come: the places in the source and in the output, the statements of the block so far, rc.
-#[derive(Drop)]
+#[derive(Clone, Copy)]
 pub struct Cursor {
     pub at: usize,
     pub o: usize,

@@ -1,4 +1,6 @@
 // Evaluation of an expression over the image's words, with its trace entries written into the lent bytes.
+#![tactic(auto)]
+
 ghost use Rattle.std.specs.Prelude.{◌≡◌, ◌<◌, eqb, length, get_or};
 ghost use Rattle.definitions.specs.Choice.{pick};
 ghost use Rattle.definitions.specs.Image.{kind_of, payload_of};

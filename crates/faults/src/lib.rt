@@ -1,4 +1,6 @@
 // The lowest fault so far, as both passes of the checker carry it. The laws that they share stand in specs/.
+#![tactic(auto)]
+
 ghost use Rattle.std.specs.Prelude.{◌≡◌, ◌&&◌, ◌||◌, eqb, ltb, ◌≤◌};
 ghost use Rattle.definitions.specs.Faults.{least, fault_if};
 

@@ -1,4 +1,6 @@
 // The words of an image: their fields by the paper's names, and what may stand where. No other crate takes a word apart.
+#![tactic(auto)]
+
 ghost use Rattle.std.specs.Prelude.{◌≡◌, ◌+◌, ◌<◌};
 ghost use Rattle.definitions.specs.Image.{kind_of, payload_of, form_of, arrays_of, procedures_of, array_secret, array_length, mode_of};
 ghost use Rattle.definitions.specs.Image.{parameters_of, locals_of, type_secret, type_sort, op_of, target_of, called_of, result_of};

@@ -1,5 +1,7 @@
 // The checker's third group: flow (9), secret where public (10), unbounded (11), calls (12), secret branches in form 1 (13).
 // Every function walks the words with a cursor, and carries the lowest fault so far.
+#![tactic(auto)]
+
 use definitions::{ConstantLoop, Fault};
 
 mod enclosing; // the enclosing fors with constant bounds
@@ -18,7 +20,7 @@ const UNBOUNDED: u32 = 0xFFFF_FFFF;
 const BOUNDS: usize = 512;
 
 // The procedure whose body is checked: its number, its image's form, its result's type word.
-#[derive(Drop)]
+#[derive(Clone, Copy)]
 pub struct Scope {
     pub me: u32,
     pub form: u32,
@@ -26,7 +28,7 @@ pub struct Scope {
 }
 
 // What the walk of an expression gives: whether it is secret, the place after it, the lowest fault so far.
-#[derive(Drop)]
+#[derive(Clone, Copy)]
 pub struct Labelled {
     pub secret: bool,
     pub next: usize,
@@ -34,14 +36,14 @@ pub struct Labelled {
 }
 
 // A call's arguments: the place after them, the lowest fault so far.
-#[derive(Drop)]
+#[derive(Clone, Copy)]
 pub struct Ended {
     pub next: usize,
     pub best: Fault,
 }
 
 // A for's bounds: the for that is around its variable in its block, the place after them, the lowest fault so far.
-#[derive(Drop)]
+#[derive(Clone, Copy)]
 pub struct Limited {
     pub inside: ConstantLoop,
     pub next: usize,
@@ -49,7 +51,7 @@ pub struct Limited {
 }
 
 // What the walk of a statement or a block gives: the rc after it, the place after it, the lowest fault so far.
-#[derive(Drop)]
+#[derive(Clone, Copy)]
 pub struct Walked {
     pub rc: bool,
     pub next: usize,

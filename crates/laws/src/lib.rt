@@ -1,1 +1,2 @@
 // Laws of the definitions that several crates cite: see specs/.
+#![tactic(auto)]

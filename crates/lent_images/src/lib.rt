@@ -1,4 +1,6 @@
 // The checker, the compiler and the description of an image on lent bytes.
+#![tactic(auto)]
+
 ghost use Rattle.std.specs.Prelude.{◌≡◌, ◌++◌, ◌*◌, ◌/◌, ◌≤◌, min, length, take, drop, replicate};
 ghost use Rattle.definitions.specs.Bytes.{bytes_of};
 ghost use Rattle.definitions.specs.Checking.{checked};

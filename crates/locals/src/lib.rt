@@ -1,5 +1,7 @@
 // Which variables a procedure needs beside its own, found by one walk over its body: RV and LIVE, a pair for each nesting level of secret
 // ifs, a temporary for results of each sort.
+#![tactic(auto)]
+
 ghost use Rattle.std.specs.Prelude.{◌≡◌, get_or, ◌≤◌, max};
 ghost use Rattle.definitions.specs.Choice.{pick};
 ghost use Rattle.definitions.specs.Image.{op_of};
@@ -18,7 +20,7 @@ use tables::SIZE;
 use tables::signatures::result_type;
 
 // Where the walk is: the number of the procedure, and whether pc is secret.
-#[derive(Drop)]
+#[derive(Clone, Copy)]
 pub struct Scope {
     pub me: u32,
     pub pc: bool,
@@ -26,7 +28,7 @@ pub struct Scope {
 
 // How far the walk has come, the place and rc; and what it has found: the nesting levels of secret ifs, and whether a call in a secret
 // context has a word, and one a boolean, for its result.
-#[derive(Drop)]
+#[derive(Clone, Copy)]
 pub struct Found {
     pub at: usize,
     pub rc: bool,

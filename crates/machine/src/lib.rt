@@ -1,4 +1,6 @@
 // The machine by value: each request takes it and hands it back beside the answer.
+#![tactic(auto)]
+
 ghost use Rattle.std.specs.Prelude.{◌≡◌, ◌++◌, ◌*◌, ◌≤◌, length, take, drop};
 ghost use Rattle.definitions.specs.Bytes.{words_of, bytes_of};
 ghost use Rattle.definitions.specs.Requests.{called_on};

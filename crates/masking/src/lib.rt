@@ -1,4 +1,6 @@
 // The statements that the compiler makes of one source statement, masked where the context is secret.
+#![tactic(auto)]
+
 ghost use Rattle.std.specs.Prelude.{◌≡◌, true, [], ◌∷◌, ◌++◌, ◌+◌, ◌≤◌, ◌<◌, length};
 ghost use Rattle.definitions.specs.Choice.{pick};
 ghost use Rattle.definitions.specs.Image.{variable, unary, assign};
@@ -20,7 +22,7 @@ use image_words::{kinds, ops};
 use writer::{put, put_two};
 
 // What the act is made of: "the guard, T or E of the innermost secret arm, and LIVE if rc is secret". The context is secret if pc or rc is.
-#[derive(Drop)]
+#[derive(Clone, Copy)]
 pub struct Act {
     pub pc: bool,
     pub arm: u32,
@@ -29,7 +31,7 @@ pub struct Act {
 }
 
 // A call: its procedure and whether that is guarded, the number of its values, the variable of its result, its temporary.
-#[derive(Drop)]
+#[derive(Clone, Copy)]
 pub struct Call {
     pub called: u32,
     pub guarded: bool,

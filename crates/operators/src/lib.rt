@@ -1,4 +1,6 @@
 // The operators of expressions: the table of sorts, and the values that they compute.
+#![tactic(auto)]
+
 ghost use Rattle.std.specs.Prelude.{◌≡◌, ◌<◌};
 ghost use Rattle.definitions.specs.Arithmetic as arithmetic;
 ghost use Rattle.definitions.specs.Operators.{operator, apply_binary, apply_unary};
@@ -26,7 +28,7 @@ const RIGHT: u32 = 1;
 const BOTH: u32 = 2;
 
 // The sort of both operands, the sort of the result, the operands that have to be public.
-#[derive(Drop)]
+#[derive(Clone, Copy)]
 struct Row(u32, u32, u32);
 
 // An array of structs: `row_of` copies a row out, a form that the borrow checker covers.

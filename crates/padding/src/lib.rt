@@ -1,5 +1,7 @@
 // The padding check of a login token: how long the content of a block of 16 cells is once its padding is gone, after RFC 5652, section 6.3, by a
 // routine that runs on the library's machine and shows the same trace for every block.
+#![tactic(auto)]
+
 ghost use Rattle.padding.specs.Interface.{AnswersBlock};
 
 use definitions::Answer;

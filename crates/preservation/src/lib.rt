@@ -1,1 +1,2 @@
 // Laws only: a compiled procedure ends as its source ends (specs/).
+#![tactic(auto)]

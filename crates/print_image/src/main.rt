@@ -1,4 +1,6 @@
 // Prints the compiled image of the one on standard input, or the refusal.
+#![tactic(auto)]
+
 use libc::{STDIN_FILENO, STDOUT_FILENO};
 
 // Reads once and drops what came; answers whether there was something.

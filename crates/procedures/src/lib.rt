@@ -1,4 +1,6 @@
 // A compiled procedure: its word, its types, its body.
+#![tactic(auto)]
+
 ghost use Rattle.std.specs.Prelude.{◌≡◌, [], ◌∷◌, ◌++◌, ◌+◌, ◌-◌, ◌≤◌, ◌<◌, length, take, drop};
 ghost use Rattle.definitions.specs.Choice.{pick};
 ghost use Rattle.definitions.specs.Encoding.{word_with, statement_word_with, statements_words, block_words, procedure_words};
@@ -24,7 +26,7 @@ use writer::{patch, put, put_two};
 
 // What is known of a source procedure: its number, whether it is guarded, the number of its parameters, its result's type word, the place
 // of its body; and of the body whether any return is deferred, the nesting levels of its secret ifs, and which temporaries it needs.
-#[derive(Drop)]
+#[derive(Clone, Copy)]
 struct Source {
     me: u32,
     guarded: bool,
@@ -39,7 +41,7 @@ struct Source {
 
 // The variables of the compiled procedure: the first of the source's that moves, RV, T of the outermost level, the temporaries, and how
 // many variables there are.
-#[derive(Drop)]
+#[derive(Clone, Copy)]
 struct Numbers {
     first: u32,
     rv: u32,
@@ -50,7 +52,7 @@ struct Numbers {
 }
 
 // The place after what was written, and the number of statements of the body.
-#[derive(Drop)]
+#[derive(Clone, Copy)]
 struct Part {
     o: usize,
     n: u32,

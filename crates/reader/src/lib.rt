@@ -1,5 +1,6 @@
 // Reads an image of words: each read answers a word with the next cursor, or the refusal. What is read is the definition's tree;
 // no tree is built, and two lent tables are filled for the passes after.
+#![tactic(auto)]
 
 mod words; // one word
 mod ends; // the table of block ends
@@ -9,7 +10,7 @@ mod procedures; // types, procedures, arrays
 pub mod image; // a whole image
 
 // A word with the place after it, or after the part that it begins; or document 01's number and place.
-#[derive(Drop)]
+#[derive(Clone, Copy)]
 pub enum Read {
     At(u32, usize),
     Refused(u32, usize),

@@ -1,4 +1,6 @@
 // Whether a request can work on a lent image: it is checked anew with every request.
+#![tactic(auto)]
+
 ghost use Rattle.std.specs.Prelude.{◌≡◌, ◌/◌, ◌≤◌, min, length, take, replicate};
 ghost use Rattle.definitions.specs.Bytes.{words_of};
 ghost use Rattle.definitions.specs.Image.{cell_count};
@@ -15,7 +17,7 @@ use tables::SIZE;
 use words::images::{ENOUGH, SHORT, admissible, read_image};
 
 // What a request finds of a lent image.
-#[derive(Drop)]
+#[derive(Clone, Copy)]
 pub enum Ready {
     // it can work on it: the number of the image's cells
     Cells(usize),

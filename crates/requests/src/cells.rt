@@ -9,7 +9,7 @@ use image_words::lists::wide;
 use tables::{SIZE, array, array_count, base};
 
 // Where a cell stands among all cells, if there is such a cell.
-#[derive(Drop)]
+#[derive(Clone, Copy)]
 pub enum Slot {
     At(usize),
     Nothing,

@@ -12,7 +12,7 @@ use simple_statements::PARAMETERS;
 use tables::SIZE;
 
 // What a call's run comes to.
-#[derive(Drop)]
+#[derive(Clone, Copy)]
 pub enum Execution {
     // the result, the steps, the number of trace words recorded
     Done(u32, u32, usize),

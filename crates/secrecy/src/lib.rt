@@ -1,1 +1,2 @@
 // Laws only: the secrecy theorem over the definitions stands in specs/.
+#![tactic(auto)]

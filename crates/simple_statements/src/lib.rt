@@ -1,5 +1,6 @@
 // Statements that run no block, and what the others begin with: conditions, bounds, the values of a call. Contracts say that what is left of the
 // variables, the cells and the lent trace bytes is what the definition gives on the tree that the words spell.
+#![tactic(auto)]
 
 pub mod parts; // what statements are made of
 pub mod statements; // assign, store and return
@@ -8,7 +9,7 @@ pub mod statements; // assign, store and return
 pub const PARAMETERS: usize = 9;
 
 // Where a statement or block is run: in the body of a procedure, with levels that are left, under a budget.
-#[derive(Drop)]
+#[derive(Clone, Copy)]
 pub struct Scope {
     pub me: u32,
     pub level: u32,
@@ -16,7 +17,7 @@ pub struct Scope {
 }
 
 // How far a run has come: the place of the next word, the trace bytes used, the steps.
-#[derive(Drop)]
+#[derive(Clone, Copy)]
 pub struct Point {
     pub at: usize,
     pub used: usize,
@@ -24,7 +25,7 @@ pub struct Point {
 }
 
 // What a run of a statement or block comes to.
-#[derive(Drop)]
+#[derive(Clone, Copy)]
 pub enum Ran {
     // on to the next: its place, the trace bytes used, the steps
     On(usize, usize, u32),
@@ -35,7 +36,7 @@ pub enum Ran {
 }
 
 // What the bounds of a for come to.
-#[derive(Drop)]
+#[derive(Clone, Copy)]
 pub enum Bounds {
     // from, to, the place after them, the trace bytes used
     Both(u32, u32, usize, usize),

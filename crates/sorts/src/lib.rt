@@ -1,5 +1,7 @@
 // The checker's second group: no such variable or array (6), wrong sort (7), the loop-variable rule (8).
 // Every function walks the words once, with a cursor, and carries the lowest fault so far.
+#![tactic(auto)]
+
 use definitions::Fault;
 
 mod expressions; // expressions
@@ -23,7 +25,7 @@ const OUTSIDE: u32 = 1;
 const INSIDE: u32 = 2;
 
 // The procedure whose body is checked: its number, its number of parameters, its result's type word.
-#[derive(Drop)]
+#[derive(Clone, Copy)]
 pub struct Scope {
     pub me: u32,
     pub parameters: u32,
@@ -31,7 +33,7 @@ pub struct Scope {
 }
 
 // What the walk of an expression gives: its sort, the place after it, the lowest fault so far.
-#[derive(Drop)]
+#[derive(Clone, Copy)]
 pub struct WalkedExpression {
     pub sort: u32,
     pub next: usize,
@@ -39,7 +41,7 @@ pub struct WalkedExpression {
 }
 
 // What the walk of a statement or block gives: the place after it, the lowest fault so far.
-#[derive(Drop)]
+#[derive(Clone, Copy)]
 pub struct Walked {
     pub next: usize,
     pub best: Fault,

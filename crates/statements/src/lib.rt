@@ -1,1 +1,2 @@
 // What the three properties speak of: see specs/.
+#![tactic(auto)]

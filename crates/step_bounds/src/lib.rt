@@ -1,5 +1,7 @@
 // The most steps that a call of a procedure can take, from the image alone: the procedures up to it are walked once, in ascending order, so
 // that the callees of each are known before it.
+#![tactic(auto)]
+
 use definitions::Answer;
 use image_words::limits::largest_level;
 use image_words::lists::{element, wide};
@@ -25,7 +27,7 @@ use walk::{Counted, PROCEDURES, count_block, higher};
 const HIGHEST: u32 = 32;
 
 // What stands in the way of a bound.
-#[derive(Drop)]
+#[derive(Clone, Copy)]
 pub enum Obstacle {
     // a for of the procedure whose bounds are not constants
     OwnFor,

@@ -20,7 +20,7 @@ pub const PROCEDURES: usize = 32;
 
 // How far the walk has come, and what it has found: the cost; whether there is a for whose bounds are not constants, and the place of the
 // first; the rank of the lowest procedure with such a for that calls lead to. The rank of procedure g is 32 - g, and 0 stands for none.
-#[derive(Drop)]
+#[derive(Clone, Copy)]
 pub struct Counted {
     pub at: usize,
     pub cost: u64,

@@ -1,4 +1,6 @@
 // The table that reading an image leaves for the passes after: what they have to know of its arrays and procedures.
+#![tactic(auto)]
+
 use image_words::lists::{element, put, wide};
 
 pub mod signatures; // what a call has to know of its procedure

@@ -1,5 +1,7 @@
 // The library's C functions. Slices cross as a pointer and a length in bytes, words most significant byte first. Each writes its answer as seven
 // words into the slice lent for it. No function has a condition: every number and every byte gets its answer.
+#![tactic(auto)]
+
 ghost use Rattle.tinesage.specs.Interface.{Checks, Compiles, Describes, Loads, Clears, Pokes, Peeks, Calls, Previews, Bounds, Compares};
 
 // Checks an image.

@@ -1,4 +1,6 @@
 // Trace entries in the lent bytes: two words each, straight into the slice, since it has no bound.
+#![tactic(auto)]
+
 ghost use Rattle.std.specs.Prelude.{◌≡◌, ◌<◌};
 ghost use Rattle.definitions.specs.Running.{emit};
 ghost use Rattle.tracing.specs.Log.{log, byte_trace};
@@ -26,7 +28,7 @@ pub const RETURNED: u32 = 8;
 pub const SHIFT_COUNT: u32 = 9;
 
 // What an evaluation comes to.
-#[derive(Drop)]
+#[derive(Clone, Copy)]
 pub enum Value {
     // the value, the place after it, the trace bytes used
     Got(u32, usize, usize),

@@ -1,4 +1,6 @@
 // The writer of the compiled image: each word goes to the next place of the lent output; words past its end are only counted.
+#![tactic(auto)]
+
 ghost use Rattle.std.specs.Prelude.{◌≡◌, [], ◌∷◌};
 ghost use Rattle.writer.specs.Writing.{write, writes};
 
