@@ -22,7 +22,7 @@ use Rattle.statements.specs.Statements.{sort_fault, label_fault, RefusesBytes}
 use Rattle.laws.specs.Tests.{and_false}
 use Rattle.laws.specs.Trees.{anywhere_procedures}
 use Rattle.laws.specs.Least.{AsLow, nothing, lower_place, same_word, least_low, least_among, least_found}
-use Rattle.laws.specs.Listed.{All, all_more, all_sort_faults, all_label_faults}
+use Rattle.laws.specs.Listed.{All, all_none, all_more, all_sort_faults, all_label_faults}
 use Rattle.laws.specs.Faultless.{faultless, no_fault_of}
 use Rattle.laws.specs.Reads.{ReadRefusal, no_image_lem, wrong_word, ends_early, spare_word, too_deep, refused_as}
 use Rattle.laws.specs.ReadImages.{reads_image, open_image}
@@ -85,6 +85,7 @@ reading_number whole words k p e = go (refused_as (rw e at (reads_image whole wo
     go (too_deep h) = omega arith
 
 among_all : {P : Fault → Type 0} {f : Fault} {fs : List Fault} → All P fs → Among f fs → P f
+among_all all_none m = elim m [ ]
 among_all (all_more h x) here = h
 among_all (all_more h x) (there m) = among_all x m
 

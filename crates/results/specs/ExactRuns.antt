@@ -1,6 +1,6 @@
 -- Document 02, wish 11: where neither a procedure nor any that it calls has an if, or a return other than as its body's last statement, a run that ends
 -- takes exactly the steps that it costs. By induction over the tree, for any trace and budget. Assumes nothing.
-use Rattle.std.specs.Prelude.{◌≡◌, Bool, ◌&&◌, ◌||◌, ltb, eqb, set}
+use Rattle.std.specs.Prelude.{◌≡◌, Bool, ◌||◌, ltb, eqb, set}
 use Rattle.std.proofs.Math.Path.{refl}
 use Rattle.std.proofs.Common.{◌∙◌, arith, eq-eqb}
 use Rattle.std.proofs.Math.Bool.{true, false}

@@ -110,11 +110,13 @@ module _ {L : ℕ → Type 0} where
   fewer_appended (gone l x) y = gone l (fewer_appended x y)
 
   was_there : {f : Fault} {fs gs : List Fault} → Fewer L fs gs → Among f fs → Among f gs
+  was_there none m = elim m [ ]
   was_there (stays x) here = here
   was_there (stays x) (there m) = there (was_there x m)
   was_there (gone l x) m = there (was_there x m)
 
   there_or_gone : {f : Fault} {fs gs : List Fault} → Fewer L fs gs → Among f gs → Among f fs ⊎ Unbounded L f
+  there_or_gone none m = elim m [ ]
   there_or_gone (stays x) here = inl here
   there_or_gone {f} (stays x) (there m) = go (there_or_gone x m)
     where
