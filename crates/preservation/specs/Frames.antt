@@ -41,6 +41,7 @@ pub data EndAlike (L : Layout) (S : Scope) (val : ℕ → ℕ) (end : Bool) : Ou
 
 pub end_alike_rise : {L : Layout} {S : Scope} {val : ℕ → ℕ} {end end' : Bool} → (end ≡ true → end' ≡ true) → (o p : Outcome) → EndAlike L S val end o p → EndAlike L S val end' o p
 end_alike_rise f (next _ _) (next _ _) (going h) = going h
+end_alike_rise f (next _ _) (back _ _) h = elim h [ ]
 end_alike_rise f (back _ _) (back _ _) quit = quit
 end_alike_rise f (back _ _) (next _ _) (deferred e h) = deferred (f e) h
 

@@ -11,7 +11,7 @@ use Rattle.definitions.specs.Image.{guarded, procedure_at}
 use Rattle.definitions.specs.Labels.{is_constant, constant_value}
 use Rattle.definitions.specs.Compiling.{masked, under, one, compiled_return, compiled_call, compiled_statement}
 use Rattle.definitions.specs.Compiling.{compiled_block}
-use Rattle.definitions.specs.Running.{Trace, Body, value, evaluate, evaluate_all, Outcome, next, Given, gave, Callee}
+use Rattle.definitions.specs.Running.{Trace, Body, value, evaluate, evaluate_all, Outcome, next, back, Given, gave, Callee}
 use Rattle.definitions.specs.Running.{passes, received, run_statement, run_block}
 use Rattle.preservation.specs.Relations.{SafeValue, sound, Safe, fine, safe_bind, safe_within, safe_go, safe_map}
 use Rattle.preservation.specs.Relations.{emitted}
@@ -162,6 +162,7 @@ module _ (L : Layout) {U : Type 0} (D : Trace U) (budget : ℕ) (K : Callee U) (
 
       finish_arms : (ws xs : List ℕ) → Unchanged L S vs ws → Unchanged L (widened S (k + 2)) ws xs → (q : Outcome) → Next (Unchanged L (widened S (k + 2)) xs) cs q → Next (Unchanged L S vs) cs q
       finish_arms ws xs m p (next _ _) (onward q) = onward (unchanged_trans m (narrowed (let f = h.allocation.free in omega arith) (unchanged_trans p q)))
+      finish_arms ws xs m p (back _ _) h = elim h [ ]
 
   pub inactive_if_public : (c : Expression) (a b : Block) → InactiveBlock a → InactiveBlock b → secret_at L c ≡ false → Inactive (conditional c a b)
   inactive_if_public c a b qa qb e l S pc arm rc k h z t vs cs o =
@@ -197,6 +198,7 @@ module _ (L : Layout) {U : Type 0} (D : Trace U) (budget : ℕ) (K : Callee U) (
       leave : (j : ℕ) (us : List ℕ) → Unchanged L S vs us → (r : Outcome) → Next (Unchanged L (entered S x f g) (set us (slot L x) j)) cs r → Next (Unchanged L S vs) cs r
       leave j us p (next _ _) (onward u) =
           onward (unchanged_trans p (record { size = u.size; keeps = λ y d. let d' = entered_in_use h y d in u.keeps y d'.1 ∙ get_or-set_other us (slot L x) y j 0 d'.0 }))
+      leave j us p (back _ _) h = elim h [ ]
 
   pub inactive_loop : (x : ℕ) (f g : Expression) (b : Block) → InactiveBlock b → Inactive (loop x f g b)
   unfolding compiled_statement
@@ -222,6 +224,7 @@ module _ (L : Layout) {U : Type 0} (D : Trace U) (budget : ℕ) (K : Callee U) (
     where
       on_from : (us : List ℕ) → Unchanged L S vs us → (r : Outcome) → Next (Unchanged L S us) cs r → Next (Unchanged L S vs) cs r
       on_from us n (next _ _) (onward u) = onward (unchanged_trans n u)
+      on_from us n (back _ _) h = elim h [ ]
 
   mutual
     pub inactive : (s : Statement) → Inactive s

@@ -40,6 +40,7 @@ unfolding finish
 sim_finish (next _ _) (next _ _) z y t u falls = meet same_given
 sim_finish (next _ _) (back _ _) z y t u nothing = meet same_given
 sim_finish (back _ _) (back _ _) z y t u returns = meet same_given
+sim_finish (back _ _) (next _ _) z y t u h = elim h [ ]
 
 safe_finish : {U : Type 0} {cs : List ℕ} (p : Outcome) (z : ℕ) (u : U) → Leaves cs p → Safe (Unmoved cs) (finish p z u)
 unfolding finish
@@ -60,12 +61,14 @@ module _ {I : Image} {P : Procedure} (h : Accepted I P) where
         → Sim Closes (on p z t) (after (λ w v us ds. run_block D budget' I.arrays K (one (return (variable 0 (return_variable P)))) w v us ds) q y u)
     close d (next us ds) (next vs _) z t y u (going m) =
         sim_more (closing D budget' I.arrays K (return_variable P) 0 vs ds (m.result d) y u) λ q e. rw e nothing
+    close d (next us ds) (back _ _) z t y u h = elim h [ ]
     close d (back v ds) (back _ _) z t y u quit = meet returns
     close d (back v ds) (next vs _) z t y u (deferred r m) =
         sim_more (closing D budget' I.arrays K (return_variable P) v vs ds m.result y u) λ q e. rw e returns
 
     open_end : defers I.arrays P ≡ false → {val : ℕ → ℕ} (p q : Outcome) → EndAlike (layout_of I P) (scope_of I P) val (defers I.arrays P) p q → Closes p q
     open_end d (next _ _) (next _ _) (going m) = falls
+    open_end d (next _ _) (back _ _) h = elim h [ ]
     open_end d (back _ _) (back _ _) quit = returns
     open_end d (back _ _) (next _ _) (deferred r m) = absurd (true≢false (sym r ∙ d))
 
@@ -119,6 +122,7 @@ module _ {I : Image} {P : Procedure} (h : Accepted I P) where
 
         leave : {vs : List ℕ} (o : Outcome) → Next (Unchanged (layout_of I P) (scope_of I P) vs) cs o → Leaves cs o
         leave (next _ _) (onward n) = leaves
+        leave (back _ _) h = elim h [ ]
 
         go : (d : Bool) → defers I.arrays P ≡ d → Safe (Leaves cs) (run_block D budget' I.arrays K (closed d (return_variable P) (body_code I P)) y u (frame (ws ++ (0 ∷ []))) cs)
         go true d = unfold closed in

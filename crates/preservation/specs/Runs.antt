@@ -75,6 +75,7 @@ module _ {T : Type 0} (C : Trace T) (budget : ℕ) (arrays : List ℕ) (K : Call
     where
       go : (o : Outcome) (w : ℕ) (u : T) → Next P ds o → Safe Q (after (λ w v us ds. run_block C budget arrays K b w v us ds) o w u)
       go (next us _) w u (onward p) = j w u us p
+      go (back _ _) w u h = elim h [ ]
 
   pub safe_followed : {P : List ℕ → Type 0} {Q : Outcome → Type 0} (a b : Block) (z : ℕ) (t : T) (vs cs ds : List ℕ)
       → Safe (Next P ds) (run_block C budget arrays K a z t vs cs)
@@ -83,6 +84,7 @@ module _ {T : Type 0} (C : Trace T) (budget : ℕ) (arrays : List ℕ) (K : Call
     where
       go : (o : Outcome) (w : ℕ) (u : T) → Next P ds o → Safe Q (after (λ w v us ds. run_block C budget arrays K b w v us ds) o w u)
       go (next us _) w u (onward p) = j w u us p
+      go (back _ _) w u h = elim h [ ]
 
   pub safe_assign : {R : ℕ → Type 0} {P : List ℕ → Type 0} (x : ℕ) (e : Expression) (z : ℕ) (t : T) (vs cs : List ℕ)
       → SafeValue R (evaluate C arrays e vs cs t) → ((v : ℕ) → R v → P (set vs x v)) → Safe (Next P cs) (run_statement C budget arrays K 0 (assign x e) z t vs cs)
@@ -119,6 +121,7 @@ safe_passes {T} {P} budget l x body from to cs k (suc n) i a e z t vs p =
     go : ((w : ℕ) (v : T) (us : List ℕ) → P us → Safe (Next P cs) (passes budget l x body n (i + 1) w v us cs))
         → (o : Outcome) (w : ℕ) (u : T) → Next P cs o → Safe (Next P cs) (after (λ w v us ds. passes budget l x body n (i + 1) w v us ds) o w u)
     go ih (next us _) w u (onward q) = ih w u us q
+    go ih (back _ _) w u h = elim h [ ]
 
 -- the compiled run's next statement, beside a source's run
 module _ {T U : Type 0} (D : Trace U) (budget : ℕ) (arrays : List ℕ) (K : Callee U) where

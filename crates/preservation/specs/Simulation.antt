@@ -19,7 +19,7 @@ use Rattle.definitions.specs.Compiling.{compiled_block}
 use Rattle.definitions.specs.Running.{Trace, value, on, within, and_go, after, emit, operated, evaluate, evaluate_all}
 use Rattle.definitions.specs.Running.{Outcome, next, back, Given, gave, Callee, Body, passes, taken, received}
 use Rattle.definitions.specs.Running.{run_statement, run_block}
-use Rattle.preservation.specs.Relations.{SafeValue, sound, SimValue, same, Sim, meet, safe_bind, sim_within}
+use Rattle.preservation.specs.Relations.{SafeValue, sound, SimValue, Sim, meet, safe_bind, sim_within}
 use Rattle.preservation.specs.Relations.{sim_go, sim_left, sim_more, sim_first, sim_then, sim_map, sim_value_map}
 use Rattle.preservation.specs.Relations.{sim_value_then, both, emitted, tick_left, tick_right}
 use Rattle.preservation.specs.Contexts.{rc_rises_block, rc_again, rc_secret_then, rc_secret_else, rc_public_then}
@@ -57,6 +57,12 @@ pub record SimCallee (ps : List Procedure) (T U : Type 0) (J : Callee T) (K : Ca
 -- the outcomes of a call in a secret context, before its result is selected
 data CallReturned (x j : ℕ) (us vs : List ℕ) : Outcome → Outcome → Type 0 where
   call_returned : (v : ℕ) {cs : List ℕ} → CallReturned x j us vs (next (set us x v) cs) (next (set vs j v) cs)
+
+-- what a call gives, taken by both
+received_alike : {T U : Type 0} (x j : ℕ) (us vs : List ℕ) (g g' : Given) (z y : ℕ) (t : T) (u : U) → SameGiven g g'
+    → Sim (CallReturned x j us vs) (received x us g z t) (received j vs g' y u)
+unfolding received
+received_alike x j us vs (gave v _) (gave _ _) z y t u same_given = meet (call_returned v)
 
 -- where the source runs the act is not 0
 pub live_on : {L : Layout} {S : Scope} {pc : Bool} {arm : ℕ} {rc : Bool} {k size : ℕ} {end : Bool} {val : ℕ → ℕ} {us vs : List ℕ}
@@ -191,7 +197,7 @@ module _ (L : Layout) {T U : Type 0} (C : Trace T) (D : Trace U) (budget budget'
       last w = unfold evaluate_all in rw (act_value D L.arrays pc arm rc (L.rv + 1) vs cs w) refl
 
       got : (g g' : Given) (z₁ y₁ : ℕ) (t₃ : T) (u₃ : U) → SameGiven g g' → Sim (CallReturned x j us vs) (received x us g z₁ t₃) (received j vs g' y₁ u₃)
-      got (gave v _) (gave _ _) z₁ y₁ t₃ u₃ same_given = unfold received in meet (call_returned v)
+      got g g' z₁ y₁ t₃ u₃ e = received_alike x j us vs g g' z₁ y₁ t₃ u₃ e
 
       result_value : (v : ℕ) (ds : List ℕ) (w : U) → SafeValue (λ r. r ≡ v) (evaluate D L.arrays (variable 0 j) (set vs j v) ds w)
       result_value v ds w = unfold evaluate in sound (get_or-set_same vs j v 0 (let r = room in let i = m.size in omega arith))
@@ -203,6 +209,8 @@ module _ (L : Layout) {T U : Type 0} (C : Trace T) (D : Trace U) (budget budget'
           sim_assign_right D budget' L.arrays K (on (next (set us x v) ds) z₁ t₁) (slot L x) (select 0 (act_at L pc arm rc) (variable 0 j) (variable 0 (slot L x))) done y₁ u₁ (set vs j v) ds
           (on_select_value D L.arrays L pc arm rc (set vs j v) (live_on h.allocation o m') s ds (variable 0 j) (variable 0 (slot L x)) v u₁ (result_value v ds u₁) (any_value (slot L x) (set vs j v) ds))
           λ r y₂ u₂ q. rw q (meet (going (live_assign h.allocation m' x v (call_variable h.rules))))
+      select_result (next _ ds) (back _ _) z₁ t₁ y₁ u₁ h = elim h [ ]
+      select_result (back _ _) _ z₁ t₁ y₁ u₁ h = elim h [ ]
 
   pub simulate_call : (f x : ℕ) (es : List Expression) → Simulated (call f x es)
   unfolding compiled_statement rc_after compiled_call
@@ -269,6 +277,8 @@ module _ (L : Layout) {T U : Type 0} (C : Trace T) (D : Trace U) (budget budget'
       where
         go : (q : Outcome) → Next (Unchanged L (widened S (k + 2)) vs) ds q → EndAlike L S val (rc_after_at L pc rc (conditional c a b)) (next us ds) q
         go (next _ _) (onward x) = going (live_narrow wide same (live_still (secret_else h e).allocation m x))
+        go (back _ _) h = elim h [ ]
+    after_then n (next us ds) (back _ _) z t y u h = elim h [ ]
     after_then n (back v ds) (back _ _) z t y u quit = meet quit
     after_then n (back v ds) (next vs _) z t y u (deferred r m) =
         let s = secret_else h e in
@@ -278,11 +288,13 @@ module _ (L : Layout) {T U : Type 0} (C : Trace T) (D : Trace U) (budget budget'
         go : (q : Outcome) → Next (Unchanged L (widened S (k + 2)) vs) ds q → EndAlike L S val (rc_after_at L pc rc (conditional c a b)) (back v ds) q
         go (next _ _) (onward x) =
             deferred (rc_secret_then L.types L.arrays c a b pc rc e r) (deferred_narrow wide same (deferred_still (secret_else h e).allocation ((secret_then h e).allocation.ends r) m x))
+        go (back _ _) h = elim h [ ]
 
     -- the end of the second arm, run with the source
     after_else : (p q : Outcome) → EndAlike L (widened S (k + 2)) now (rc_after_block_at L true rc b) p q
         → EndAlike L S val (rc_after_at L pc rc (conditional c a b)) p q
     after_else (next _ _) (next _ _) (going m) = going (live_narrow wide same m)
+    after_else (next _ _) (back _ _) h = elim h [ ]
     after_else (back _ _) (back _ _) quit = quit
     after_else (back _ _) (next _ _) (deferred r m) = deferred (rc_secret_else L.types L.arrays c a b pc rc e r) (deferred_narrow wide same m)
 
@@ -299,6 +311,7 @@ module _ (L : Layout) {T U : Type 0} (C : Trace T) (D : Trace U) (budget budget'
             (after (λ w v xs ds. target (codes L b true (k + 1) rc (k + 2)) w v xs ds) o w x)
         enter_else n (next xs _) w x (onward r) =
             sim_map after_else (mb (widened S (k + 2)) true (k + 1) rc (k + 2) (secret_else h e) now (λ _. eqb-false (now (k + 1)) 0 n) z t w x us xs cs (live_still (secret_then h e).allocation m r))
+        enter_else n (back _ _) w x h = elim h [ ]
 
         go : (s : Bool) → eqb (now k) 0 ≡ s → eqb (now (k + 1)) 0 ≡ not s
             → Sim (EndAlike L S val (rc_after_at L pc rc (conditional c a b)))
@@ -370,6 +383,7 @@ module _ (L : Layout) {T U : Type 0} (C : Trace T) (D : Trace U) (budget budget'
         (after (λ w v us ds. passes budget' 0 (slot L x) (λ n p us ds. target (codes L b pc arm (rc_after_block_at L pc rc b) k) n p us ds) n i w v us ds) q y u)
     unfolding rc_after
     next_pass n i a e ih (next us ds) (next vs _) z t y u (going m) = ih z t y u us vs ds (live_leave h m)
+    next_pass n i a e ih (next us ds) (back _ _) z t y u h = elim h [ ]
     next_pass n i a e ih (back v ds) (back _ _) z t y u quit = meet quit
     next_pass n i a e ih (back v ds) (next vs _) z t y u (deferred r m) =
         let s = rc_again L.types L.arrays b pc rc r in
@@ -380,6 +394,7 @@ module _ (L : Layout) {T U : Type 0} (C : Trace T) (D : Trace U) (budget budget'
         go (next _ _) (onward a) =
             let s = rc_again L.types L.arrays b pc rc r in
             deferred s (deferred_still (loop_allocation h) ((loop_allocation h).begins s) (deferred_leave h m) a)
+        go (back _ _) h = elim h [ ]
 
     pub simulate_passes : (n i : ℕ) → from ≤ i → n ≡ to - i → (z : ℕ) (t : T) (y : ℕ) (u : U) (us vs cs : List ℕ) → Live L S val us vs
         → Sim (EndAlike L S val (rc_after_block_at L pc rc b))
@@ -422,6 +437,7 @@ module _ (L : Layout) {T U : Type 0} (C : Trace T) (D : Trace U) (budget budget'
           (after (λ w v us ds. source b w v us ds) p z t)
           (after (λ w v us ds. target (codes L b pc arm (rc_after_at L pc rc s) k) w v us ds) q y u)
       next_statement (next us ds) (next vs _) z t y u (going m) = mb S pc arm (rc_after_at L pc rc s) k (rest_block h) val o z t y u us vs ds m
+      next_statement (next us ds) (back _ _) z t y u h = elim h [ ]
       next_statement (back v ds) (back _ _) z t y u quit = meet quit
       next_statement (back v ds) (next vs _) z t y u (deferred r m) =
           sim_more (inactive_block L D budget' K kq b S pc arm (rc_after_at L pc rc s) k (rest_block h) y u vs ds
@@ -429,6 +445,7 @@ module _ (L : Layout) {T U : Type 0} (C : Trace T) (D : Trace U) (budget budget'
         where
           go : (q : Outcome) → Next (Unchanged L S vs) ds q → EndAlike L S val (rc_after_block_at L pc (rc_after_at L pc rc s) b) (back v ds) q
           go (next _ _) (onward a) = deferred (rc_rises_block L.types L.arrays b pc (rc_after_at L pc rc s) r) (deferred_still (rest_block h).allocation ((rest_block h).allocation.begins r) m a)
+          go (back _ _) h = elim h [ ]
 
   mutual
     pub simulated : (s : Statement) → Simulated s

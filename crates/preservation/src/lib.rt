@@ -1,2 +1,3 @@
 // Laws only: a compiled procedure ends as its source ends (specs/).
+
 #![tactic(auto)]
