@@ -50,6 +50,10 @@ take_none (suc n) = refl
 pub same_count : (b b' : List ℕ) → length b ≡ length b' → length (words_of b) ≡ length (words_of b')
 same_count b b' e = length_words_of b ∙ ap (λ (k : ℕ). k / 4) e ∙ sym (length_words_of b')
 
+-- of machines that are paired the public cells are equal
+paired_cells : {m n : Machine} → Paired m n → Statements.PublicCells (image_of m.image) m.cells n.cells
+paired_cells (paired {image} f s b) = public_cells (image_of image) b
+
 -- the machines after a request that leaves the image in force, over lent bytes
 module _ (image cells cells' : List ℕ) (force : InForce image) (size : length cells ≡ length cells') where
   after_request : (ws ws' : List ℕ) → Agree (length (words_of cells)) (cell_secret (image_of image).arrays) ws ws'
@@ -61,11 +65,7 @@ module _ (image cells cells' : List ℕ) (force : InForce image) (size : length 
 
   cells_after : (ws ws' : List ℕ) → Agree (length (words_of cells)) (cell_secret (image_of image).arrays) ws ws'
       → Statements.PublicCells (image_of image) (lent cells ws) (lent cells' ws')
-  cells_after ws ws' a = by_pair (after_request ws ws' a)
-    where
-      by_pair : Paired (record { image = image; cells = lent cells ws }) (record { image = image; cells = lent cells' ws' })
-          → Statements.PublicCells (image_of image) (lent cells ws) (lent cells' ws')
-      by_pair (paired f s b) = public_cells (image_of image) b
+  cells_after ws ws' a = paired_cells (after_request ws ws' a)
 
   -- answers that are alike, traces in which the same words were recorded, and cells that agree
   responded : {secret : Bool} (a b : Answer) (t u ws ws' : List ℕ) → SameAnswer secret a b → recorded a t ≡ recorded b u
