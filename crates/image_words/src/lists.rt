@@ -17,6 +17,7 @@ pub fn narrow(x: usize) -> u32
 }
 
 // The element at an index, 0 past the end.
+#[tactic(auto, using(crate::proofs::ListRules::past_end))]
 pub fn element(list: &[u32], i: usize) -> u32
     ensures { result ≡ get_or list.now i 0 }
 {
@@ -27,6 +28,7 @@ pub fn element(list: &[u32], i: usize) -> u32
 }
 
 // Stores at an index; past the end there is nothing to store in.
+#[tactic(auto, using(crate::proofs::ListRules::put_past))]
 pub fn put(list: &mut [u32], i: usize, v: u32)
     ensures { list.new ≡ set list.old i v }
 {
@@ -35,6 +37,7 @@ pub fn put(list: &mut [u32], i: usize, v: u32)
     }
 }
 
+#[tactic(auto, using(crate::proofs::ListRules::clear_more, crate::proofs::ListRules::clear_done))]
 pub fn clear(list: &mut [u32])
     ensures { list.new ≡ replicate (length list.new) 0 }
 {

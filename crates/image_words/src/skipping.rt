@@ -5,6 +5,7 @@ ghost use Rattle.image_words.specs.Skipping.{operand_count, Row, Skippable};
 use super::{kind, kinds};
 
 // The number of operands of an expression.
+#[tactic(auto, using(crate::proofs::SkipRules::no_operands, crate::proofs::SkipRules::one_operand, crate::proofs::SkipRules::two_operands, crate::proofs::SkipRules::three_operands))]
 fn operand_count(k: u32) -> usize
     ensures { (result ≡ operand_count k) × (result ≤ 3) }
 {

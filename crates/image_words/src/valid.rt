@@ -5,6 +5,7 @@ ghost use Rattle.definitions.specs.Image.{header_word, array_word, procedure_wor
 use super::limits::most_locals;
 use super::{HIGH_UNIT, KIND_UNIT, MIDDLE_UNIT};
 
+#[tactic(auto, unfolding(definitions::specs::Image::header_word))]
 pub fn header_word(w: u32) -> bool
     ensures { result ≡ header_word w }
 {
@@ -16,6 +17,7 @@ pub fn header_word(w: u32) -> bool
 }
 
 // An array word, where the arrays before it have the given number of cells.
+#[tactic(auto, unfolding(definitions::specs::Image::array_word))]
 pub fn array_word(cells: u32, w: u32) -> bool
     requires { cells ≤ 1024 }
     ensures { result ≡ array_word cells w }
@@ -26,6 +28,7 @@ pub fn array_word(cells: u32, w: u32) -> bool
             & ((1 <= length) & ((length <= 256) & (cells + length <= 1024))))
 }
 
+#[tactic(auto, unfolding(definitions::specs::Image::procedure_word))]
 pub fn procedure_word(form: u32, w: u32) -> bool
     requires { form < 2 }
     ensures { result ≡ procedure_word form w }
@@ -37,12 +40,14 @@ pub fn procedure_word(form: u32, w: u32) -> bool
             & ((p / MIDDLE_UNIT % MIDDLE_UNIT <= 8 + form) & (p % MIDDLE_UNIT <= locals)))
 }
 
+#[tactic(auto, unfolding(definitions::specs::Image::type_word))]
 pub fn type_word(w: u32) -> bool
     ensures { result ≡ type_word w }
 {
     (w / KIND_UNIT == 4) & (w % KIND_UNIT < 4)
 }
 
+#[tactic(auto, unfolding(definitions::specs::Image::block_word))]
 pub fn block_word(w: u32) -> bool
     ensures { result ≡ block_word w }
 {
@@ -50,6 +55,7 @@ pub fn block_word(w: u32) -> bool
 }
 
 // A statement's word in the body of the procedure numbered `me`.
+#[tactic(auto, unfolding(definitions::specs::Image::statement_word))]
 pub fn statement_word(me: u32, w: u32) -> bool
     ensures { result ≡ statement_word me w }
 {
@@ -61,6 +67,7 @@ pub fn statement_word(me: u32, w: u32) -> bool
                 | ((op == 3) | (((op == 4) & (q == 0)) | ((op == 5) & (q / MIDDLE_UNIT < me))))))
 }
 
+#[tactic(auto, unfolding(definitions::specs::Image::expression_word))]
 pub fn expression_word(w: u32) -> bool
     ensures { result ≡ expression_word w }
 {
@@ -75,6 +82,7 @@ pub fn expression_word(w: u32) -> bool
                             | (((k == 13) & (p < 15)) | ((k == 14) & (p == 0))))))))
 }
 
+#[tactic(auto, unfolding(definitions::specs::Image::raw_word))]
 pub fn raw_word(w: u32) -> bool
     ensures { result ≡ raw_word w }
 {
