@@ -50,6 +50,7 @@ const OPERATORS: [Row; 15] = [
     Row(BOOLEAN, BOOLEAN, NEITHER), // 14 or
 ];
 
+#[tactic(auto, using(crate::proofs::Table::entry))]
 fn row_of(op: u32) -> Row
     requires { op < 15 }
     ensures { (result.0 ≡ (operator op).operands) × (result.1 ≡ (operator op).result) × (result.2 ≡ (operator op).publics) }
@@ -162,6 +163,7 @@ fn logical_or(a: u32, b: u32) -> u32
 }
 
 // The value of a binary operator; past the table, 0.
+#[tactic(auto, using(crate::proofs::Operations::binary_at, crate::proofs::Operations::binary_past))]
 pub fn apply(op: u32, a: u32, b: u32) -> u32
     ensures { result ≡ apply_binary op a b }
 {
@@ -186,6 +188,7 @@ pub fn apply(op: u32, a: u32, b: u32) -> u32
 }
 
 // The value of a unary operator: 0 not, 1 complement, 2 boolean as word; past those, 0.
+#[tactic(auto, using(crate::proofs::Operations::unary_at, crate::proofs::Operations::unary_past))]
 pub fn apply_unary(op: u32, a: u32) -> u32
     ensures { result ≡ apply_unary op a }
 {
