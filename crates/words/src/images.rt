@@ -15,6 +15,7 @@ pub const SHORT: usize = 2048;
 pub const ENOUGH: usize = 65540;
 
 // The first 16,384 words of an image go to the front, and how many there are: a longer image is refused by its header or its length alone.
+#[tactic(auto, using(crate::proofs::ImageRules::short_read))]
 pub fn read_image(image: &[u8], words: &mut [u32]) -> usize
     requires { min (length image.now / 4) 16384 ≤ length words.old }
     ensures { (result ≡ min (length image.now / 4) 16384) × (result ≤ length words.new) × (take result words.new ≡ take 16384 (words_of image.now))
@@ -30,6 +31,7 @@ pub fn read_image(image: &[u8], words: &mut [u32]) -> usize
 }
 
 // Whether an image is whole words, and no more of them than any form admits.
+#[tactic(auto, using(crate::proofs::ImageRules::admitted))]
 pub fn admissible(image: &[u8]) -> bool
     ensures { result ≡ (whole_words image.now && leb (length (words_of image.now)) 16384) }
 {

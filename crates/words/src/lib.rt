@@ -24,6 +24,7 @@ pub fn word(b: &[u8], i: usize) -> u32
 }
 
 // The first n words of b go to the front of out; the words behind them stay.
+#[tactic(auto, using(crate::proofs::Steps::read_more))]
 pub fn read_words(b: &[u8], out: &mut [u32], n: usize)
     requires { (4 * n ≤ length b.now) × (n ≤ length out.old) }
     ensures { (take n out.new ≡ take n (words_of b.now)) × (drop n out.new ≡ drop n out.old) }
@@ -36,6 +37,7 @@ pub fn read_words(b: &[u8], out: &mut [u32], n: usize)
 }
 
 // The first n words of one slice go to the front of another; the words behind them stay.
+#[tactic(auto, using(crate::proofs::Steps::copy_more))]
 pub fn copy_words(from: &[u32], out: &mut [u32], n: usize)
     requires { (n ≤ length from.now) × (n ≤ length out.old) }
     ensures { (take n out.new ≡ take n from.now) × (drop n out.new ≡ drop n out.old) }
@@ -49,6 +51,7 @@ pub fn copy_words(from: &[u32], out: &mut [u32], n: usize)
 
 // The four bytes of w go to the byte offset at and the three after it. The four bounds are written out, since a proof
 // by search finds a store after a store only so.
+#[tactic(auto, using(crate::proofs::Steps::stores))]
 pub fn put_word(out: &mut [u8], at: usize, w: u32)
     requires { (at < length out.old) × (at + 1 < length out.old) × (at + 2 < length out.old) × (at + 3 < length out.old) }
     ensures { out.new ≡ sets out.old at (word4 w) }
@@ -60,6 +63,7 @@ pub fn put_word(out: &mut [u8], at: usize, w: u32)
 }
 
 // The first n words of ws go to the front of out; the bytes behind them stay.
+#[tactic(auto, using(crate::proofs::Steps::write_more), unfolding(definitions::specs::Bytes::bytes_of))]
 pub fn write_words(ws: &[u32], out: &mut [u8], n: usize)
     requires { (n ≤ length ws.now) × (4 * n ≤ length out.old) }
     ensures { out.new ≡ bytes_of (take n ws.now) ++ drop (4 * n) out.old }
