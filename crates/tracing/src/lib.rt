@@ -37,6 +37,7 @@ pub enum Value {
 }
 
 // Records an entry and hands its value on; stop 22 where there is no room for two words.
+#[tactic(auto, using(crate::proofs::Rules::note_short, crate::proofs::Rules::note_spent, crate::proofs::Rules::note_kept))]
 pub fn note(
     trace: &mut [u8],
     used: usize,
