@@ -31,6 +31,7 @@ pub fn cell_count(table: &[u32; SIZE]) -> usize
 }
 
 // Cell i of array a.
+#[tactic(auto, using(crate::proofs::CellRules::no_array, crate::proofs::CellRules::no_cell, crate::proofs::CellRules::cell_found))]
 pub fn find_cell(table: &[u32; SIZE], a: u32, i: u32) -> Slot
     ensures { result ≡ slot_in table.now a i }
 {
