@@ -1,7 +1,10 @@
 // Prints the compiled image of the one on standard input, or the refusal.
 #![tactic(auto)]
 
-use libc::{STDIN_FILENO, STDOUT_FILENO};
+// The file descriptors of standard input and standard output.
+const STDIN_FILENO: i32 = 0;
+
+const STDOUT_FILENO: i32 = 1;
 
 // Reads once and drops what came; answers whether there was something.
 fn drop_some() -> bool {
