@@ -10,7 +10,7 @@ use Rattle.laws.specs.Previews.{previewed_answer}
 use Rattle.requests.specs.LongImages.{front, whole_and_short, same_admitted}
 use Rattle.results.specs.Named.{answer_place, checked_place, compiled_place}
 use Rattle.results.specs.Images.{Admits, admits_image, checked_within, compiled_within, described_within}
-use Rattle.results.specs.Requests.{load_within, clear_within, poke_within, peek_within, bound_within, calls_image, calls_within}
+use Rattle.results.proofs.Requests.{load_within, clear_within, poke_within, peek_within, bound_within, calls_image, calls_within}
 
 module _ (image : List ℕ) where
   short : length (front image) ≤ 16384

@@ -50,17 +50,17 @@ use Rattle.results.specs.IndicesAdded
 use Rattle.results.specs.StillCompiles.{still_compiles, refused_before, locals_always_fit, fifteen_by_length}
 use Rattle.results.specs.CountsAdded.{count_recorded, count_stopped, by_operators, only_entries_added, no_shift_same}
 use Rattle.results.specs.Accepted.{accepted_exactly, refused_exactly, reading_number, sort_number, label_number}
-use Rattle.results.specs.Exactly.{loaded_or_not, ready_or_not, cell_or_not, called_or_not, load_refused_exactly, load_is_done}
-use Rattle.results.specs.Exactly.{clear_refused_exactly, clear_is_done, poke_refused_exactly, poke_is_done}
-use Rattle.results.specs.Exactly.{peek_refused_exactly, peek_is_done, call_refused_exactly, call_ends, load_unchanged}
-use Rattle.results.specs.Exactly.{clear_unchanged, poke_unchanged, peek_unchanged, call_unchanged, stop_leaves, done_leaves}
-use Rattle.results.specs.Exactly.{preview_refused_exactly, preview_ends, preview_leaves}
+use Rattle.results.proofs.Exactly.{loaded_or_not, ready_or_not, cell_or_not, called_or_not, load_refused_exactly, load_is_done}
+use Rattle.results.proofs.Exactly.{clear_refused_exactly, clear_is_done, poke_refused_exactly, poke_is_done}
+use Rattle.results.proofs.Exactly.{peek_refused_exactly, peek_is_done, call_refused_exactly, call_ends, load_unchanged}
+use Rattle.results.proofs.Exactly.{clear_unchanged, poke_unchanged, peek_unchanged, call_unchanged, stop_leaves, done_leaves}
+use Rattle.results.proofs.Exactly.{preview_refused_exactly, preview_ends, preview_leaves}
 use Rattle.results.specs.Written.{written_or_not, compile_refused_exactly, compile_is_written, compile_unchanged}
-use Rattle.results.specs.StoppedExactly.{two_budgets, two_traces, steps_within, words_within, budget_reached, trace_filled}
-use Rattle.results.specs.StoppedExactly.{index_stops, divisor_stops, whole_entries}
-use Rattle.results.specs.PreviewedTraces.{trace_enough}
+use Rattle.results.proofs.StoppedExactly.{two_budgets, two_traces, steps_within, words_within, budget_reached, trace_filled}
+use Rattle.results.proofs.StoppedExactly.{index_stops, divisor_stops, whole_entries}
+use Rattle.results.proofs.PreviewedTraces.{trace_enough}
 use Rattle.results.specs.LongestPaths.{longest_path}
-use Rattle.results.specs.StepBounds.{bounded_or_not, bound_refused_exactly, bound_is_done, bound_leaves, from_image_alone, bound_holds, bound_enough, bound_exact}
+use Rattle.results.proofs.StepBounds.{bounded_or_not, bound_refused_exactly, bound_is_done, bound_leaves, from_image_alone, bound_holds, bound_enough, bound_exact}
 use Rattle.properties.specs.CompiledBytes.{target_accepted, target_tree, target_loads, same_meaning}
 use Rattle.secrecy.specs.Secrecy.{secrecy, served_to_the_end}
 use Rattle.padding.specs.Promise.{PaddingCheck, padding_check}

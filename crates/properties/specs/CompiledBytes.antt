@@ -28,7 +28,7 @@ use Rattle.readback.specs.Conclusion.{ReadBack, read_back, compiled_accepted}
 use Rattle.readback.specs.Cells.{same_load, same_clear, same_poke, same_peek}
 use Rattle.readback.specs.Output.{Wrote, wrote}
 use Rattle.results.specs.Accepted.{admitted_admissible, admissible_admitted}
-use Rattle.results.specs.Exactly.{load_is_done}
+use Rattle.results.proofs.Exactly.{load_is_done}
 use Rattle.properties.specs.Compiled.{no_fault_lem, same_calls}
 
 -- what is lent as bytes, from what a call on words gives

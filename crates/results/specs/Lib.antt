@@ -4,8 +4,6 @@ pub mod Answers
 pub mod Runs
 pub mod Images
 pub mod Accepted
-pub mod Requests
-pub mod Exactly
 pub mod Written
 pub mod SideBySide
 pub mod MoreWords
@@ -16,11 +14,8 @@ pub mod Renumbered
 pub mod StillCompiles
 pub mod TwoRuns
 pub mod TwoCalls
-pub mod StoppedExactly
-pub mod PreviewedTraces
 pub mod WithinLimits
 pub mod CountsAdded
 pub mod BoundedRuns
 pub mod ExactRuns
 pub mod LongestPaths
-pub mod StepBounds

@@ -26,7 +26,7 @@ use Rattle.results.specs.WordsNamed.{named_array, WithArray, Names, procedures_a
 use Rattle.results.specs.Answers.{Stop, budget_spent_lem, trace_full_lem, beyond_array, divisor_0, Calls, ends, stops}
 use Rattle.results.specs.Answers.{call_refuses}
 use Rattle.results.specs.Images.{admits_image}
-use Rattle.results.specs.Requests.{calls_image}
+use Rattle.results.proofs.Requests.{calls_image}
 use Rattle.results.specs.SideBySide.{steps_taken, trace_left, SameRun, both_on, both_halt, first_halt}
 use Rattle.results.specs.MoreWords.{More, more_length, more_taken}
 use Rattle.results.specs.TwoRuns.{Cut, spent, filled, cut_comparison, two_runs}
@@ -115,12 +115,12 @@ call_with whole words cells f arguments budget room =
 -- ---- the recorded words of a call on lent bytes
 
 -- what is known of one call (Answers): steps within the budget, the number of words recorded, which are within the trace lent, when 21 and 22 fall
-pub record Limits (budget room : ℕ) (x : Called) : Type 0 where
+record Limits (budget room : ℕ) (x : Called) : Type 0 where
   steps : steps_of x.0 ≤ budget
   count : recorded_count x.0 ≡ length x.2
   words : length x.2 ≤ room
   even : length x.2 % 2 ≡ 0
-  pub spent_at : (p z n : ℕ) → x.0 ≡ Stopped 21 p z n → z ≡ budget
+  spent_at : (p z n : ℕ) → x.0 ≡ Stopped 21 p z n → z ≡ budget
   filled_at : (p z n : ℕ) → x.0 ≡ Stopped 22 p z n → room < n + 2
 
 limits_call : (whole : Bool) (words cells : List ℕ) (f : ℕ) (arguments : List ℕ) (budget room : ℕ)
@@ -233,7 +233,7 @@ module _ (image cells : List ℕ) (f : ℕ) (arguments : List ℕ) where
   abbrev on_bytes : ℕ → List ℕ → Answer × List ℕ × List ℕ
   on_bytes budget trace = call_bytes image cells f arguments budget trace
 
-  pub limits : (budget room : ℕ) → Limits budget room (on_words budget room)
+  limits : (budget room : ℕ) → Limits budget room (on_words budget room)
   limits budget room = limits_call (whole_words image) (words_of image) (words_of cells) f (words_of arguments) budget room
 
   cuts : (b b' r r' : ℕ) → b ≤ b' → r ≤ r' → CutCall b r (on_words b r) (on_words b' r')

@@ -26,9 +26,9 @@ use Rattle.laws.specs.StepBounds.{cost_among, reach_sound}
 use Rattle.laws.specs.VariableFors.{Listed, none_listed, first_listed, fors_listed, bodies_constant, first_of, none_of}
 use Rattle.laws.specs.WordsOfBytes.{length_words_of, lent_words_of}
 use Rattle.results.specs.Accepted.{admissible_admitted}
-use Rattle.results.specs.Exactly.{ready_or_not, not_ready, refused_exactly, done_not_refused}
+use Rattle.results.proofs.Exactly.{ready_or_not, not_ready, refused_exactly, done_not_refused}
 use Rattle.results.specs.TwoCalls.{steps_ended}
-use Rattle.results.specs.StoppedExactly.{run_of, both_calls, two_budgets, limits}
+use Rattle.results.proofs.StoppedExactly.{run_of, both_calls, two_budgets, budget_reached}
 use Rattle.results.specs.BoundedRuns.{steps_procedure}
 use Rattle.results.specs.ExactRuns.{Takes, ends, halts, exact_procedure}
 
@@ -183,17 +183,13 @@ module _ (image cells : List ℕ) (f bound : ℕ) (known : (bound_bytes image ce
   -- "a budget of at least the bound never gives 21"
   pub bound_enough : (cells' arguments : List ℕ) (budget : ℕ) (trace : List ℕ) → bound ≤ budget
       → (p z n : ℕ) → (call_bytes image cells' f arguments budget trace).0 ≡ Stopped 21 p z n → ⊥
-  unfolding call_bytes
   bound_enough cells' arguments budget trace enough p z n e =
       go (two_budgets image cells' f arguments budget (suc budget) trace (omega arith))
     where
-      room : ℕ
-      room = length (words_of trace)
-
       go : SameOrSpent budget (call_bytes image cells' f arguments budget trace) (call_bytes image cells' f arguments (suc budget) trace) → ⊥
       go (same_call s) =
-          let x = (limits image cells' f arguments budget room).spent_at p z n e in
-          let y = (limits image cells' f arguments (suc budget) room).spent_at p z n (sym (ap (λ (r : Called). r.0) s) ∙ e) in
+          let x = budget_reached image cells' f arguments budget trace p z n e in
+          let y = budget_reached image cells' f arguments (suc budget) trace p z n (sym (ap (λ (r : Called). r.0) s) ∙ e) in
           omega arith
       go (spent_budget q m s l) = let h = bound_holds cells' arguments (suc budget) trace in omega arith
 

@@ -7,7 +7,7 @@ use Rattle.definitions.specs.Requests.{Called}
 use Rattle.definitions.specs.Host.{call_bytes, preview_bytes}
 use Rattle.statements.specs.Statements.{recorded_count, recorded_in, SameOrFilled, same_answer, filled_trace}
 use Rattle.laws.specs.Previews.{previewed_answer, previewed_trace}
-use Rattle.results.specs.StoppedExactly.{two_traces}
+use Rattle.results.proofs.StoppedExactly.{two_traces}
 
 -- two calls that differ only in the trace lent have the same answer and record the same words
 abbrev Same : Called → Called → Type 0

@@ -34,7 +34,7 @@ use Rattle.readback.specs.Like.{LikeImage, like_procedure_count}
 use Rattle.readback.specs.Accepted.{like_at}
 use Rattle.results.specs.Answers.{Stop, budget_spent_lem, trace_full_lem, beyond_array, divisor_0, Calls, ends, stops, call_refuses}
 use Rattle.results.specs.Images.{admits_image}
-use Rattle.results.specs.Requests.{calls_image}
+use Rattle.results.proofs.Requests.{calls_image}
 use Rattle.results.specs.Accepted.{accepted_bytes, admissible_admitted}
 
 -- ---- There is no third case

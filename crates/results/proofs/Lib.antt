@@ -1,0 +1,5 @@
+pub mod Requests
+pub mod Exactly
+pub mod StoppedExactly
+pub mod PreviewedTraces
+pub mod StepBounds
