@@ -8,6 +8,7 @@ ghost use Rattle.writer.specs.Writing.{write, writes};
 const LAST_PLACE: usize = 16385;
 
 // Writes one word and answers the next place. It never refuses: what does not fit is told from the place at the end.
+#[tactic(auto, using(crate::proofs::Rules::put_past, crate::proofs::Rules::put_within, crate::proofs::Rules::put_beyond))]
 pub fn put(out: &mut [u32], o: usize, w: u32) -> usize
     ensures { (result, out.new) ≡ write o out.old w }
 {
@@ -30,6 +31,7 @@ pub fn put_two(out: &mut [u32], o: usize, v: u32, w: u32) -> usize
 }
 
 // Writes a word again, at a place that was passed before its value was known.
+#[tactic(auto, using(crate::proofs::Rules::patch_on))]
 pub fn patch(out: &mut [u32], o: usize, w: u32)
     ensures { out.new ≡ (write o out.old w).1 }
 {
