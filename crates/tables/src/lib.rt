@@ -30,6 +30,7 @@ pub fn array_count(table: &[u32; SIZE]) -> usize
 }
 
 // The word of an array, 0 where there is none.
+#[tactic(auto, using(crate::proofs::Rules::array_there, crate::proofs::Rules::array_none))]
 pub fn array(table: &[u32; SIZE], a: u32) -> u32
     ensures { result ≡ get_or (arrays_in table.now) a 0 }
 {
@@ -41,6 +42,7 @@ pub fn array(table: &[u32; SIZE], a: u32) -> u32
 }
 
 // Where the cells of an array begin.
+#[tactic(auto, using(crate::proofs::Rules::cast_at))]
 pub fn base(table: &[u32; SIZE], a: u32) -> u32
     ensures { result ≡ base_in table.now a }
 {
@@ -48,6 +50,7 @@ pub fn base(table: &[u32; SIZE], a: u32) -> u32
 }
 
 // The place of a procedure's word.
+#[tactic(auto, using(crate::proofs::Rules::cast_at))]
 pub fn place(table: &[u32; SIZE], f: u32) -> usize
     ensures { (result ≡ place_in table.now f) × (result < 4294967296) }
 {
@@ -55,6 +58,7 @@ pub fn place(table: &[u32; SIZE], f: u32) -> usize
 }
 
 // The place of a procedure's body.
+#[tactic(auto, using(crate::proofs::Rules::cast_at))]
 pub fn body(table: &[u32; SIZE], f: u32) -> usize
     ensures { (result ≡ body_in table.now f) × (result < 4294967296) }
 {
@@ -69,6 +73,7 @@ pub fn parameters(table: &[u32; SIZE], f: u32) -> u32
 }
 
 // One array more, behind n: its word, where its cells begin, the number of arrays.
+#[tactic(auto, using(crate::proofs::Rules::stored_array))]
 pub fn add_array(table: &mut [u32; SIZE], n: u32, w: u32, cells: u32)
     requires { n < 16 }
     ensures { table.new ≡ set (set (set table.old n w) (16 + n) cells) 32 (n + 1) }
@@ -80,6 +85,7 @@ pub fn add_array(table: &mut [u32; SIZE], n: u32, w: u32, cells: u32)
 }
 
 // The procedure of a number: its place, its body's place, its number of parameters.
+#[tactic(auto, using(crate::proofs::Rules::stored))]
 pub fn add_procedure(table: &mut [u32; SIZE], f: u32, place: u32, body: u32, parameters: u32)
     requires { f < 32 }
     ensures { table.new ≡ set (set (set table.old (33 + f) place) (65 + f) body) (97 + f) parameters }

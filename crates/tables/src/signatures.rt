@@ -16,6 +16,7 @@ pub fn procedure_word(image: &[u32], table: &[u32; SIZE], f: u32) -> u32
     element(image, place(table, f))
 }
 
+#[tactic(auto, using(crate::proofs::Rules::guarded_told))]
 pub fn is_guarded(image: &[u32], table: &[u32; SIZE], f: u32) -> bool
     requires { Listed image.now table.now f }
     ensures { result ≡ guarded (procedure_in image.now f) }
@@ -24,6 +25,7 @@ pub fn is_guarded(image: &[u32], table: &[u32; SIZE], f: u32) -> bool
 }
 
 // The type word of its result.
+#[tactic(auto, using(crate::proofs::Rules::result_told))]
 pub fn result_type(image: &[u32], table: &[u32; SIZE], f: u32) -> u32
     requires { Listed image.now table.now f }
     ensures { result ≡ (procedure_in image.now f).result }

@@ -1,0 +1,11 @@
+-- The sort of a variable that a listed procedure has, and of one that it has not. Assumes nothing.
+use Rattle.tables.proofs.Rules.{sort_there, sort_none}
+use Rattle.tables.proofs.signatures.variable_sort.Goals as goal
+
+pub returns-then-k-variables : goal.returns-then-k-variables
+returns-then-k-variables c =
+    sort_there _ _ _ c.requires _ c.procedure_word.ensures _ _ c.variables.ensures.0 c.if-k-variables.true _ _ _ c.place.ensures.0
+    c.wide.ensures.0 c.element.ensures _ c.type_sort.ensures.0
+
+pub returns : goal.returns
+returns c = sort_none _ _ _ c.requires _ c.procedure_word.ensures _ _ c.variables.ensures.0 c.if-k-variables.false
