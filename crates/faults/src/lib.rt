@@ -16,6 +16,7 @@ fn goes_before(best: Fault, number: u32, place: usize) -> bool
 }
 
 // The lowest of `best` and the fault of a rule, where it is broken. Numbers of faults are not 0.
+#[tactic(auto, using(crate::proofs::Rules::note_kept, crate::proofs::Rules::note_new, crate::proofs::Rules::note_old))]
 pub fn note(best: Fault, broken: bool, number: u32, place: usize) -> Fault
     requires { 1 ≤ number }
     ensures { result ≡ least best (fault_if broken number place) }
