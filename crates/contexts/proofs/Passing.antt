@@ -4,17 +4,17 @@ use mathlib.Core.Bool.{Bool, true, ◌||◌}
 use mathlib.Core.List.{List}
 use mathlib.Core.Path.{◌≡◌, sym, ap, ◌∙◌}
 use native.Mathlib.Omega.{arith}
-use lib.ListN.{length, get_or}
+use lib.ListN.{get_or}
 use Rattle.definitions.specs.Image.{payload_of, op_of, target_of, called_of, result_of, Expression, Statement, assign, store}
 use Rattle.definitions.specs.Image.{conditional, loop, return, call, Block, sequence}
 use Rattle.definitions.specs.Reading.{Parse, got, refused, read_expression, read_arguments, read_statement, read_block}
 use Rattle.definitions.specs.Labels.{rc_after, rc_after_block}
 use Rattle.laws.specs.Parses.{ok, ok_of, end_of, end_of_lem}
 use Rattle.laws.specs.StatementInversion.{open_assign, open_store, open_if, open_for, open_return, open_call}
-use Rattle.image_words.specs.Read.{StatementRead, BlockRead, arguments_at, statements_at}
-use Rattle.image_words.specs.Parts.{told, pair_got}
-use Rattle.image_words.specs.StatementParts.{no_statement, first_statement, read_statement_lem, read_statements_lem, block_statements}
-use Rattle.image_words.specs.StatementParts.{read_then, read_else, read_bounds, read_body, read_call}
+use Rattle.image_words.specs.Read.{BlockRead, arguments_at, statements_at}
+use Rattle.image_words.specs.Parts.{told}
+use Rattle.image_words.specs.StatementParts.{no_statement, first_statement, read_statements_lem, block_statements}
+use Rattle.image_words.specs.StatementParts.{read_then, read_else, read_bounds, read_body}
 use Rattle.image_words.specs.Skipping.{Row, skipped_expression, skipped_pair, skipped_two, skipped_arguments}
 use Rattle.contexts.specs.Context.{passing, seen, passed, passed_block}
 use Rattle.contexts.specs.declared.Seen.{Seen}

@@ -50,7 +50,7 @@ pub fn secret_array(table: &[u32; SIZE], a: u32) -> bool
 }
 
 // Whether the expression at a place is secret.
-#[cycle(secret_expression_secret_two)]
+#[cycle(expressions)]
 pub fn secret_expression(
     image: &[u32],
     table: &[u32; SIZE],
@@ -112,7 +112,7 @@ pub fn secret_expression(
 }
 
 // Whether one of two expressions, one behind the other, is secret.
-#[cycle(secret_expression_secret_two)]
+#[cycle(expressions)]
 fn secret_two(image: &[u32], table: &[u32; SIZE], types: &[u32], at: usize, level: u32) -> Seen
     requires { PairRead level image.now at }
     ensures { result ≡ seen_two types.now (arrays_in table.now) (read_expression level image.now at)
@@ -128,7 +128,7 @@ fn secret_two(image: &[u32], table: &[u32; SIZE], types: &[u32], at: usize, leve
 }
 
 // The rc after the statement at a place, in the body of procedure `me`.
-#[cycle(rc_block_rc_if_rc_statement)]
+#[cycle(blocks)]
 pub fn rc_statement(
     image: &[u32],
     table: &[u32; SIZE],
@@ -181,7 +181,7 @@ pub fn rc_statement(
 }
 
 // An if: both arms begin with the rc before it, and pc is secret in them if the condition is.
-#[cycle(rc_block_rc_if_rc_statement)]
+#[cycle(blocks)]
 fn rc_if(
     image: &[u32],
     table: &[u32; SIZE],
@@ -211,7 +211,7 @@ fn rc_if(
 }
 
 // The rc after the block at a place.
-#[cycle(rc_block_rc_if_rc_statement)]
+#[cycle(blocks)]
 pub fn rc_block(
     image: &[u32],
     table: &[u32; SIZE],
