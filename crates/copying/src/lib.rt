@@ -43,7 +43,8 @@ fn copy_word(image: &[u32], out: &mut [u32], at: usize, o: usize) -> Spot
 }
 
 // Copies the expression at a place.
-#[cycle(copy_expression_copy_select_copy_two)]
+#[tactic(auto, using(image_words::specs::Parts::read_raw, image_words::specs::Parts::is_select))]
+#[cycle(copies)]
 pub fn copy_expression(
     image: &[u32],
     out: &mut [u32],
@@ -89,7 +90,7 @@ pub fn copy_expression(
 }
 
 // A select: its condition, then its two values.
-#[cycle(copy_expression_copy_select_copy_two)]
+#[cycle(copies)]
 fn copy_select(image: &[u32], out: &mut [u32], at: usize, o: usize, first: u32, level: u32) -> Spot
     requires { ExpressionRead level image.now at × (kind_of (get_or image.now at 0) ≡ 14) }
     ensures { ((result, out.new) ≡ copied first o out.old (read_expression level image.now at))
@@ -103,7 +104,7 @@ fn copy_select(image: &[u32], out: &mut [u32], at: usize, o: usize, first: u32, 
 }
 
 // Copies two expressions, one behind the other.
-#[cycle(copy_expression_copy_select_copy_two)]
+#[cycle(copies)]
 pub fn copy_two(image: &[u32], out: &mut [u32], at: usize, o: usize, first: u32, level: u32) -> Spot
     requires { PairRead level image.now at }
     ensures { ((result, out.new) ≡ copied_two first o out.old (read_expression level image.now at)
@@ -117,6 +118,7 @@ pub fn copy_two(image: &[u32], out: &mut [u32], at: usize, o: usize, first: u32,
 }
 
 // Copies a number of expressions in a row: the values of a call.
+#[tactic(auto, using(crate::proofs::Arguments::arguments_ready, crate::proofs::Arguments::arguments_begin, crate::proofs::Arguments::arguments_done, crate::proofs::Arguments::arguments_more, crate::proofs::Arguments::arguments_again, crate::proofs::Arguments::argument_read))]
 pub fn copy_arguments(
     image: &[u32],
     out: &mut [u32],
