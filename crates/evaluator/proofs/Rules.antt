@@ -9,7 +9,7 @@ use Rattle.definitions.specs.Choice.{pick}
 use Rattle.definitions.specs.Operators.{apply_unary}
 use Rattle.definitions.specs.Image.{kind_of, payload_of, Expression, cell, unary, binary, select}
 use Rattle.definitions.specs.Reading.{got, read_expression}
-use Rattle.definitions.specs.Running.{value, stop, operated, evaluate as value_of}
+use Rattle.definitions.specs.Running.{value, operated, evaluate as value_of}
 use Rattle.laws.specs.ExpressionInversion.{open_constant, open_raw, open_boolean, open_variable}
 use Rattle.laws.specs.ExpressionInversion.{open_cell, open_unary, open_binary, open_select}
 use Rattle.tracing.specs.declared.Value.{Value}

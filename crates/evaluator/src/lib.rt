@@ -25,6 +25,7 @@ pub const VARIABLES: usize = 255;
 pub const CELLS: usize = 1024;
 
 // Records an index, and tests it: the value is the number of its cell among all cells.
+#[tactic(auto, using(crate::proofs::Leaves::index_full, crate::proofs::Leaves::index_out))]
 pub fn index_at(
     table: &[u32; SIZE],
     trace: &mut [u8],
@@ -48,6 +49,7 @@ pub fn index_at(
 }
 
 // The cell of an index.
+#[tactic(auto, using(crate::proofs::Leaves::cell_stop, crate::proofs::Leaves::cell_got))]
 fn cell_at(
     table: &[u32; SIZE],
     cells: &[u32; CELLS],
@@ -69,6 +71,7 @@ fn cell_at(
 }
 
 // Quotient or remainder: both operands are recorded before the divisor is tested.
+#[tactic(auto, using(crate::proofs::Leaves::divide_full, crate::proofs::Leaves::divide_full2, crate::proofs::Leaves::divide_zero))]
 fn divide(
     trace: &mut [u8],
     used: usize,
@@ -96,6 +99,7 @@ fn divide(
 }
 
 // A shift or rotation: its count is recorded as it is, before the modulo.
+#[tactic(auto, using(crate::proofs::Leaves::shift_full, crate::proofs::Leaves::shift_done))]
 fn shift(trace: &mut [u8], used: usize, place: usize, op: u32, a: u32, b: u32, next: usize) -> Value
     requires { place < 268435456 }
     ensures { evaluation result trace.new ≡ until next (shifted byte_trace place op a b (log used trace.old)) }
@@ -108,6 +112,7 @@ fn shift(trace: &mut [u8], used: usize, place: usize, op: u32, a: u32, b: u32, n
 }
 
 // A binary operator on its operands' values, by where it stands in the table.
+#[tactic(auto, using(crate::proofs::Leaves::operate_below, crate::proofs::Leaves::operate_shift, crate::proofs::Leaves::operate_divide, crate::proofs::Leaves::operate_above))]
 fn operate(
     trace: &mut [u8],
     used: usize,
@@ -151,7 +156,7 @@ fn raw(image: &[u32], at: usize) -> u32
 }
 
 // An operand: a variable or a small constant is read in place, which spares a call.
-#[cycle(evaluate_evaluate_binary_evaluate_select_operand)]
+#[cycle(evaluation)]
 pub fn operand(
     image: &[u32],
     table: &[u32; SIZE],
@@ -178,7 +183,7 @@ pub fn operand(
 }
 
 // Both operands, left to right, then the operator.
-#[cycle(evaluate_evaluate_binary_evaluate_select_operand)]
+#[cycle(evaluation)]
 fn evaluate_binary(
     image: &[u32],
     table: &[u32; SIZE],
@@ -206,7 +211,7 @@ fn evaluate_binary(
 }
 
 // The condition and both values are evaluated, then one is chosen.
-#[cycle(evaluate_evaluate_binary_evaluate_select_operand)]
+#[cycle(evaluation)]
 fn evaluate_select(
     image: &[u32],
     table: &[u32; SIZE],
@@ -237,7 +242,7 @@ fn evaluate_select(
 }
 
 // The expression at a place: its value and the place after it, or the stop.
-#[cycle(evaluate_evaluate_binary_evaluate_select_operand)]
+#[cycle(evaluation)]
 pub fn evaluate(
     image: &[u32],
     table: &[u32; SIZE],
