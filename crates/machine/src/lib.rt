@@ -21,14 +21,14 @@ mod runs; // a call over an array of cells
 pub mod small; // the machine of an image with few cells
 
 // The first `count` words are the cells of the image; those behind them mean nothing.
-#[derive(Drop)]
+#[derive(Clone, Copy)]
 pub struct Machine {
     pub cells: [u32; CELLS],
     pub count: usize,
 }
 
 // The machine after a request, beside the request's answer.
-#[derive(Drop)]
+#[derive(Clone, Copy)]
 pub struct Turn {
     pub machine: Machine,
     pub answer: Answer,

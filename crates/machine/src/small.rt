@@ -17,14 +17,14 @@ use words::copy_words;
 pub const FEW: usize = 64;
 
 // The first `count` words are the cells of the image; those behind them mean nothing.
-#[derive(Drop)]
+#[derive(Clone, Copy)]
 pub struct SmallMachine {
     pub cells: [u32; FEW],
     pub count: usize,
 }
 
 // The machine after a call, beside the call's answer.
-#[derive(Drop)]
+#[derive(Clone, Copy)]
 pub struct SmallTurn {
     pub machine: SmallMachine,
     pub answer: Answer,
