@@ -21,7 +21,7 @@ use Rattle.evaluator.specs.CellLaws.{numbered_is}
 use Rattle.evaluator.specs.Evaluation.{evaluate_at}
 use Rattle.evaluator.specs.Results.{until_got, until_stop, tree_got, tree_stop}
 use Rattle.simple_statements.specs.declared.Ran.{Ran}
-use Rattle.simple_statements.specs.declared.Ran.TheVariants.{On, Back, Stop as Halt}
+use Rattle.simple_statements.specs.declared.Ran.TheVariants.{On, Back}
 use Rattle.simple_statements.specs.Runs.{finished, stopped_at, placed, ending, callees, statement_at, slot_at}
 
 -- two evaluations in a run are one

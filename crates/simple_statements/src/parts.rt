@@ -16,6 +16,7 @@ use tables::SIZE;
 use tracing::Value;
 
 // The stop of an evaluation, in a run that has taken `steps` steps.
+#[tactic(auto, using(crate::proofs::PartRules::stopped_stop, crate::proofs::PartRules::stopped_got))]
 pub fn stopped(r: Value, steps: u32) -> Ran
     ensures { result ≡ stopped_at r steps }
 {
@@ -71,6 +72,7 @@ pub fn slot(
 }
 
 // The stop of a for's bounds.
+#[tactic(auto, using(crate::proofs::PartRules::no_bounds_stop, crate::proofs::PartRules::no_bounds_got))]
 fn no_bounds(r: Value) -> Bounds
     ensures { result ≡ no_bounds r }
 {
@@ -81,6 +83,7 @@ fn no_bounds(r: Value) -> Bounds
 }
 
 // The entries of a for's bounds.
+#[tactic(auto, using(crate::proofs::PartRules::range_full, crate::proofs::PartRules::range_full2, crate::proofs::PartRules::range_noted_lem))]
 fn note_range(
     trace: &mut [u8],
     used: usize,
