@@ -1,0 +1,15 @@
+-- The checker refuses the image, or accepts it.
+use Rattle.checker.specs.Left.{passes}
+use Rattle.describing.proofs.Rules.{refused_too, written_whole}
+use Rattle.describing.proofs.describe.Goals as goal
+
+pub describe_accepted-requires : goal.describe_accepted-requires
+describe_accepted-requires c =
+    let p = passes _ _ _ _ _ c.check_with.ensures.0 c.in-Accepted.is c.check_with.ensures.1 in (p.known, p.clean)
+
+pub returns-in-Refused : goal.returns-in-Refused
+returns-in-Refused c = refused_too _ _ _ c.check_with.ensures.0 _ _ c.in-Refused.is _
+
+pub returns-in-Accepted : goal.returns-in-Accepted
+returns-in-Accepted c =
+    written_whole _ _ _ _ _ (passes _ _ _ _ _ c.check_with.ensures.0 c.in-Accepted.is c.check_with.ensures.1).is_whole c.describe_accepted.ensures
