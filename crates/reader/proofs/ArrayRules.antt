@@ -5,9 +5,9 @@ use mathlib.Core.List.{List, [], ◌∷◌, ◌++◌, append_assoc}
 use Prim.Native.Nat.{ℕ, suc, ◌+◌, ◌-◌, ◌≤◌, ◌<◌}
 use native.Mathlib.Omega.{arith}
 use borrow.Author.Tests.{not-true, not-false}
-use lib.ListN.{length, get_or, set, length-append}
+use lib.ListN.{length, set, length-append}
 use Rattle.definitions.specs.Image.{array_length, array_word, cell_count}
-use Rattle.definitions.specs.Reading.{Parse, got, refused, and_then, on_word, read_arrays}
+use Rattle.definitions.specs.Reading.{Parse, got, and_then, on_word, read_arrays}
 use Rattle.laws.specs.Parses.{got_same}
 use Rattle.laws.specs.WordTests.{array_limits}
 use Rattle.tables.specs.Table.{table_of}
@@ -15,7 +15,7 @@ use Rattle.tables.specs.Filling.{table_array}
 use Rattle.reader.specs.declared.Read.{Read}
 use Rattle.reader.specs.declared.Read.TheVariants.{At, Refused}
 use Rattle.reader.specs.Answers.{answer, word_at}
-use Rattle.reader.specs.AnswerLaws.{refused_of, answer_got, answer_refused}
+use Rattle.reader.specs.AnswerLaws.{refused_of, answer_got}
 use Rattle.reader.specs.Left.{ArraysLeft}
 use Rattle.reader.proofs.Answers.{one_more, answer_last, word_of, word_end, word_bad, word_good, not_got, append_none}
 

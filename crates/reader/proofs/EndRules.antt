@@ -25,7 +25,7 @@ module _ (t : List ℕ) (at end : ℕ) where
   pub mark_large : 65536 ≤ end → t ≡ marked t at end
   mark_large h = rw (le-ltb _ _ h)
 
-pub ruleset mark·rules = (mark_stored, mark_past, mark_large)
+pub ruleset mark_rules = (mark_stored, mark_past, mark_large)
 
 -- ---- the end of a block
 
@@ -43,4 +43,4 @@ module _ (image params ends : List ℕ) (me at level : ℕ) (s : BlockEnds image
   unfolding end_of
   end_none w r n q e d = sym (ap end_of (refused_of w (read_block level params me image at) r n q e d))
 
-pub ruleset end·rules = (end_known, end_read, end_none)
+pub ruleset end_rules = (end_known, end_read, end_none)

@@ -3,7 +3,7 @@
 use mathlib.Core.Path.{◌≡◌, refl, sym, ap, ◌∙◌}
 use mathlib.Core.Bool.{Bool, true, false, not}
 use mathlib.Core.List.{List, ◌∷◌}
-use Prim.Native.Nat.{ℕ, zero, suc, ◌+◌, ◌-◌, ◌/◌, ◌≤◌, ◌<◌}
+use Prim.Native.Nat.{ℕ, zero, suc, ◌+◌, ◌-◌, ◌≤◌, ◌<◌}
 use native.Mathlib.Omega.{arith}
 use borrow.Author.Tests.{eqb-true, eqb-false, not-true, not-false}
 use lib.Dec.{eqb}
@@ -40,7 +40,7 @@ module _ (w : ℕ) (image : List ℕ) (at : ℕ) (r : Read) (e : r ≡ word_at i
         (word_good image at raw_word (λ v. got v (at + 1)) r e v next d (sym h ∙ not-false g t) ∙ rw b)
         ∙ raw_answer_lem w image at (λ v. v)
 
-pub ruleset raw·rules = (raw_end, raw_bad, raw_good)
+pub ruleset raw_rules = (raw_end, raw_bad, raw_good)
 
 -- ---- what follows the first word, by the number of operands
 
@@ -223,7 +223,7 @@ module _ (l : ℕ) (image : List ℕ) (at : ℕ) (r : Read) (e : r ≡ word_at i
                         let (c, q) = got_of (get_or image n2 0) (read_expression (l - 1) image n2) r3 v3 n3 e3 d3 in
                         shown_three (At w n3) (answer_got w operands c n3 (last ∙ q))
 
-pub ruleset expression·rules = (expression_end, expression_bad, expression_deep, expression_raw, expression_plain, expression_one_bad, expression_one, expression_two_bad, expression_two, expression_three_bad, expression_three)
+pub ruleset expression_rules = (expression_end, expression_bad, expression_deep, expression_raw, expression_plain, expression_one_bad, expression_one, expression_two_bad, expression_two, expression_three_bad, expression_three)
 
 -- ---- the values of a call: what is left of them
 
@@ -252,4 +252,4 @@ module _ (n k l : ℕ) (image : List ℕ) (a : ℕ) (X : Read) (inv : answer 0 (
         sym (answer_last 0 (arguments_at (n - (k + 1)) l image next) (λ es. x ∷ es))
         ∙ sym (ap (λ z. answer 0 (and_then z (λ e m. and_then (arguments_at (n - (k + 1)) l image m) (λ es o. got (e ∷ es) o)))) q) ∙ step
 
-pub ruleset arguments·rules = (arguments_begin, arguments_done, arguments_bad, arguments_more)
+pub ruleset arguments_rules = (arguments_begin, arguments_done, arguments_bad, arguments_more)

@@ -169,7 +169,7 @@ module _ (form count : ℕ) (image start : List ℕ) (first : ℕ) (table ends :
                     ∙ sym (ap (λ z. answer 0 z) (turn ∙ ap behind q)) ∙ s.shown);
               }
 
-pub ruleset procedures·rules = (progress_begin, progress_sound, procedures_done, procedures_kept, procedures_bad, procedures_bad_kept, place_small, progress_more)
+pub ruleset procedures_rules = (progress_begin, progress_sound, procedures_done, procedures_kept, procedures_bad, procedures_bad_kept, place_small, progress_more)
 
 -- ---- what follows the header
 

@@ -49,7 +49,7 @@ module _ (n k : ℕ) (image : List ℕ) (a : ℕ) (X : Read) (inv : answer 0 (re
           ∙ sym (answer_last 0 (read_types (n - (k + 1)) image (a + 1)) (λ ts. w ∷ ts))
           ∙ sym (ap (λ z. answer 0 z) (word_good image a type_word (λ w. rest_types w) r e w next d (sym hg ∙ not-false g t))) ∙ turn_types
 
-pub ruleset types·rules = (types_begin, types_done, types_end, types_bad, types_more)
+pub ruleset types_rules = (types_begin, types_done, types_end, types_bad, types_more)
 
 -- ---- a procedure's types and body
 
@@ -87,7 +87,7 @@ module _ (form : ℕ) (params : List ℕ) (me : ℕ) (image : List ℕ) (w at c 
         let (b, q) = got_of (get_or image n1 0) (read_block l params me image n1) r2 v2 n2 e2 d in
         answer_got w (types_then (read_types (parameters_of w + locals_of w) image at)) b n2 (then_block ∙ q)
 
-pub ruleset body·rules = (body_types_bad, body_block_bad, body_whole)
+pub ruleset body_rules = (body_types_bad, body_block_bad, body_whole)
 
 -- ---- a procedure
 
@@ -158,4 +158,4 @@ module _ (form : ℕ) (params : List ℕ) (me : ℕ) (image : List ℕ) (at : �
               ∙ sym (after_shown w v)
               ∙ sym (ap (λ z. answer w z) (word_good image (at + 1) type_word (λ r. after_result w r) s second v first ds (sym h' ∙ not-false g' t'))))
 
-pub ruleset procedure·rules = (procedure_end, procedure_bad, result_end, result_bad, procedure_whole)
+pub ruleset procedure_rules = (procedure_end, procedure_bad, result_end, result_bad, procedure_whole)

@@ -3,14 +3,14 @@
 use mathlib.Core.Path.{◌≡◌, refl, sym, ap, ◌∙◌}
 use mathlib.Core.Bool.{Bool, true, false, not}
 use mathlib.Core.List.{List}
-use Prim.Native.Nat.{ℕ, zero, suc, ◌+◌, ◌-◌, ◌/◌, ◌%◌, ◌≤◌, ◌<◌}
+use Prim.Native.Nat.{ℕ, zero, suc, ◌+◌, ◌-◌, ◌≤◌, ◌<◌}
 use native.Mathlib.Omega.{arith}
 use borrow.Author.Tests.{eqb-true, eqb-false, ne_eqb, not-true, not-false}
 use lib.Dec.{eqb}
 use lib.ListN.{get_or}
 use Rattle.definitions.specs.Choice.{pick}
 use Rattle.definitions.specs.Image.{payload_of, op_of, target_of, called_of, result_of, statement_word, block_word, Expression}
-use Rattle.definitions.specs.Image.{Statement, assign, store, conditional, loop, return, call, Block, sequence}
+use Rattle.definitions.specs.Image.{Statement, assign, store, conditional, loop, return, call, Block}
 use Rattle.definitions.specs.Reading.{Parse, got, refused, and_then, on_word, statement_at, read_expression, read_arguments}
 use Rattle.definitions.specs.Reading.{read_statement, read_statements, read_block}
 use Rattle.laws.specs.WordTests.{call_op}
@@ -87,7 +87,7 @@ module _ (l : ℕ) (params : List ℕ) (me : ℕ) (image : List ℕ) (w at : ℕ
           let (c, k) = got_of (get_or image n2 0) (read_block l params me image n2) r3 v3 n3 e3 d in
           chain_three w (read_expression l image at) (λ a. read_block l params me image a) (λ a. read_block l params me image a) a n1 p b n2 h c n3 k
 
-pub ruleset if·rules = (if_one_bad, if_two_bad, if_three_bad, if_whole)
+pub ruleset if_rules = (if_one_bad, if_two_bad, if_three_bad, if_whole)
 
 -- ---- a for
 
@@ -123,7 +123,7 @@ module _ (l : ℕ) (params : List ℕ) (me : ℕ) (image : List ℕ) (w at : ℕ
           let (c, k) = got_of (get_or image n2 0) (read_block l params me image n2) r3 v3 n3 e3 d in
           chain_three w (read_expression l image at) (λ a. read_expression l image a) (λ a. read_block l params me image a) a n1 p b n2 h c n3 k
 
-pub ruleset for·rules = (for_one_bad, for_two_bad, for_three_bad, for_whole)
+pub ruleset for_rules = (for_one_bad, for_two_bad, for_three_bad, for_whole)
 
 -- ---- an assignment, a store, a return, a call
 
@@ -183,7 +183,7 @@ module _ (l : ℕ) (params image : List ℕ) (w at op : ℕ) (ho : op ≡ op_of 
             let (b, q) = got_of (get_or image n1 0) (read_expression l image n1) r2 v2 n2 e2 d in
             rw (told ho k) (answer_got w (and_then (read_expression l image at) (λ i n. read_expression l image n)) b n2 (second a p ∙ q))
 
-pub ruleset simple·rules = (simple_call_bad, simple_call, simple_one_bad, simple_one, simple_two_bad, simple_two)
+pub ruleset simple_rules = (simple_call_bad, simple_call, simple_one_bad, simple_one, simple_two_bad, simple_two)
 
 -- ---- what follows a statement's word, by its op
 
@@ -302,7 +302,7 @@ module _ (l : ℕ) (params : List ℕ) (me : ℕ) (image : List ℕ) (at : ℕ) 
             statement_shown (q ∙ ap (λ z. simple_answer (l - 1) params image w z) after
             ∙ sym (following_simple (l - 1) params me image at w (sym h ∙ not-false g t) (not_told ho n2) (not_told ho n3)))
 
-pub ruleset statement·rules = (statement_end, statement_bad, statement_deep, statement_if, statement_for, statement_simple)
+pub ruleset statement_rules = (statement_end, statement_bad, statement_deep, statement_if, statement_for, statement_simple)
 
 -- ---- the statements of a block: what is left of them
 
@@ -336,7 +336,7 @@ module _ (n k l : ℕ) (params : List ℕ) (me : ℕ) (image : List ℕ) (a : �
         sym (answer_last 0 (statements_at (n - (k + 1)) l params me image next) (λ b. Block.sequence a x b))
         ∙ sym (ap (λ z. answer 0 (rest z)) q) ∙ turn
 
-pub ruleset statements·rules = (statements_begin, statements_done, statements_bad, statements_more)
+pub ruleset statements_rules = (statements_begin, statements_done, statements_bad, statements_more)
 
 -- ---- a block
 
@@ -397,4 +397,4 @@ module _ (l : ℕ) (params : List ℕ) (me : ℕ) (image : List ℕ) (at : ℕ) 
           pub block_marked : (ends ends' : List ℕ) → Sound image params me ends → ends' ≡ marked ends at end → Sound image params me ends'
           block_marked ends ends' sound m = let (b, q) = whole in rw m (mark_sound image params me ends at l b end sound q)
 
-pub ruleset block·rules = (block_end, block_bad, block_deep, block_short, block_whole, block_marked)
+pub ruleset block_rules = (block_end, block_bad, block_deep, block_short, block_whole, block_marked)

@@ -30,6 +30,7 @@ pub fn entry(ends: &[u16], at: usize) -> usize
     0
 }
 
+#[tactic(auto, using(image_words::proofs::ListRules::clear_more, image_words::proofs::ListRules::clear_done))]
 pub fn clear_ends(ends: &mut [u16])
     ensures { ends.new ≡ replicate (length ends.new) 0 }
 {

@@ -10,6 +10,7 @@ use image_words::valid::{expression_word, raw_word};
 use image_words::{kind, kinds};
 
 // The raw constant after its word.
+#[tactic(auto, using(crate::proofs::ExpressionRules::raw_rules))]
 fn read_raw(image: &[u32], w: u32, at: usize) -> Read
     ensures { result ≡ raw_answer w image.now at }
 {
@@ -24,6 +25,7 @@ fn read_raw(image: &[u32], w: u32, at: usize) -> Read
 }
 
 // `level` is the number of levels that are left.
+#[tactic(auto, using(crate::proofs::ExpressionRules::expression_rules))]
 pub fn read_expression(image: &[u32], at: usize, level: u32) -> Read
     ensures { result ≡ answer (get_or image.now at 0) (read_expression level image.now at) }
 {
@@ -66,6 +68,7 @@ pub fn read_expression(image: &[u32], at: usize, level: u32) -> Read
 }
 
 // `count` expressions in a row; there need be none, so that the word answered is 0.
+#[tactic(auto, using(crate::proofs::ExpressionRules::arguments_rules))]
 pub fn read_arguments(image: &[u32], count: u32, at: usize, level: u32) -> Read
     ensures { result ≡ answer 0 (arguments_at count level image.now at) }
 {

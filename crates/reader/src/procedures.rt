@@ -15,6 +15,7 @@ use image_words::{array_length, variables};
 use tables::SIZE;
 
 // `count` type words; there need be none, so that the word answered is 0.
+#[tactic(auto, using(crate::proofs::ProcedureRules::types_rules))]
 pub fn read_types(image: &[u32], count: u32, at: usize) -> Read
     ensures { result ≡ answer 0 (read_types count image.now at) }
 {
@@ -35,6 +36,7 @@ pub fn read_types(image: &[u32], count: u32, at: usize) -> Read
 }
 
 // The types of a procedure's parameters and locals, then its body; `w` is the procedure's word.
+#[tactic(auto, using(crate::proofs::ProcedureRules::body_rules))]
 fn read_body(
     image: &[u32],
     form: u32,
@@ -60,6 +62,7 @@ fn read_body(
 }
 
 // The procedure numbered `me`: its word, its result's type, then the rest.
+#[tactic(auto, using(crate::proofs::ProcedureRules::procedure_rules))]
 pub fn read_procedure(
     image: &[u32],
     form: u32,

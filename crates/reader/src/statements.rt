@@ -16,6 +16,7 @@ use image_words::{called, op, ops, payload};
 use tables::SIZE;
 
 // What follows the word of an assignment, a store, a return or a call.
+#[tactic(auto, using(crate::proofs::StatementRules::simple_rules))]
 fn read_simple(image: &[u32], table: &[u32; SIZE], w: u32, at: usize, level: u32) -> Read
     ensures { result ≡ simple_answer level (params_in table.now) image.now w at }
 {
@@ -43,7 +44,8 @@ fn read_simple(image: &[u32], table: &[u32; SIZE], w: u32, at: usize, level: u32
 }
 
 // What follows the word of an if.
-#[cycle(read_block_read_for_read_if_read_statement_read_statements)]
+#[cycle(blocks)]
+#[tactic(auto, using(crate::proofs::StatementRules::if_rules))]
 fn read_if(
     image: &[u32],
     table: &[u32; SIZE],
@@ -73,7 +75,8 @@ fn read_if(
 }
 
 // What follows the word of a for.
-#[cycle(read_block_read_for_read_if_read_statement_read_statements)]
+#[cycle(blocks)]
+#[tactic(auto, using(crate::proofs::StatementRules::for_rules))]
 fn read_for(
     image: &[u32],
     table: &[u32; SIZE],
@@ -103,7 +106,8 @@ fn read_for(
 }
 
 // A statement in the body of the procedure numbered `me`; the table has the number of parameters of each procedure before it.
-#[cycle(read_block_read_for_read_if_read_statement_read_statements)]
+#[cycle(blocks)]
+#[tactic(auto, using(crate::proofs::StatementRules::statement_rules))]
 fn read_statement(
     image: &[u32],
     table: &[u32; SIZE],
@@ -137,7 +141,8 @@ fn read_statement(
 }
 
 // `count` statements in a row; there need be none, so that the word answered is 0.
-#[cycle(read_block_read_for_read_if_read_statement_read_statements)]
+#[cycle(blocks)]
+#[tactic(auto, using(crate::proofs::StatementRules::statements_rules))]
 fn read_statements(
     image: &[u32],
     table: &[u32; SIZE],
@@ -165,7 +170,8 @@ fn read_statements(
 }
 
 // A block: a count, then that many statements. Its end is marked.
-#[cycle(read_block_read_for_read_if_read_statement_read_statements)]
+#[cycle(blocks)]
+#[tactic(auto, using(crate::proofs::StatementRules::block_rules))]
 pub fn read_block(
     image: &[u32],
     table: &[u32; SIZE],
@@ -197,6 +203,7 @@ pub fn read_block(
 }
 
 // The place after a block that is known to read: from the table, or where that has no entry by reading the block again.
+#[tactic(auto, using(crate::proofs::EndRules::end_rules))]
 pub fn block_end(
     image: &[u32],
     table: &[u32; SIZE],
