@@ -8,6 +8,7 @@ use definitions::ConstantLoop;
 use image_words::lists::wide;
 
 // The for around a variable; where there is none, passes and bound above any length.
+#[tactic(auto, using(crate::proofs::EnclosingRules::loop_there, crate::proofs::EnclosingRules::loop_past))]
 pub fn loop_around(bounds: &[u32], x: u32) -> ConstantLoop
     ensures { result ≡ get_or (bounds_in bounds.now) x unbounded }
 {
@@ -25,6 +26,7 @@ pub fn loop_around(bounds: &[u32], x: u32) -> ConstantLoop
 }
 
 // Puts a for around a variable.
+#[tactic(auto, using(crate::proofs::EnclosingRules::loop_put, crate::proofs::EnclosingRules::loop_kept))]
 pub fn put_loop(bounds: &mut [u32], x: u32, inside: ConstantLoop)
     ensures { bounds_in bounds.new ≡ set (bounds_in bounds.old) x inside }
 {

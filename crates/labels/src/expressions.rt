@@ -16,6 +16,7 @@ use image_words::{array_length, kind, kinds, payload};
 use tables::SIZE;
 
 // The faults of an index at a place: it has to be public, and bounded by the array's length in a secret context.
+#[tactic(auto, using(crate::proofs::OperandRules::index_noted_lem))]
 pub fn note_index(
     image: &[u32],
     table: &[u32; SIZE],
@@ -36,6 +37,7 @@ pub fn note_index(
 }
 
 // The faults of an operator's operands: which have to be public, and what a divisor has to be in a secret context.
+#[tactic(auto, using(crate::proofs::OperandRules::operator_noted_lem))]
 fn note_operator(
     image: &[u32],
     publics: u32,
@@ -57,7 +59,7 @@ fn note_operator(
 }
 
 // An expression, by the kind of its first word.
-#[cycle(label_binary_label_cell_label_expression_label_select_label_two)]
+#[cycle(parts)]
 pub fn label_expression(
     image: &[u32],
     table: &[u32; SIZE],
@@ -115,7 +117,7 @@ pub fn label_expression(
     label_select(image, table, types, bounds, context, at, level, best)
 }
 
-#[cycle(label_binary_label_cell_label_expression_label_select_label_two)]
+#[cycle(parts)]
 fn label_cell(
     image: &[u32],
     table: &[u32; SIZE],
@@ -141,7 +143,7 @@ fn label_cell(
     }
 }
 
-#[cycle(label_binary_label_cell_label_expression_label_select_label_two)]
+#[cycle(parts)]
 fn label_binary(
     image: &[u32],
     table: &[u32; SIZE],
@@ -177,7 +179,7 @@ fn label_binary(
     }
 }
 
-#[cycle(label_binary_label_cell_label_expression_label_select_label_two)]
+#[cycle(parts)]
 fn label_select(
     image: &[u32],
     table: &[u32; SIZE],
@@ -203,7 +205,7 @@ fn label_select(
 }
 
 // Two expressions, one behind the other.
-#[cycle(label_binary_label_cell_label_expression_label_select_label_two)]
+#[cycle(parts)]
 fn label_two(
     image: &[u32],
     table: &[u32; SIZE],

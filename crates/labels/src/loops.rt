@@ -15,6 +15,7 @@ use definitions::{ConstantLoop, Fault};
 use tables::SIZE;
 
 // One of a for's bounds.
+#[tactic(auto, using(crate::proofs::LoopRules::bound_labelled))]
 fn label_bound(
     image: &[u32],
     table: &[u32; SIZE],
@@ -50,6 +51,7 @@ pub fn passes(from: u32, to: u32) -> u32
 }
 
 // The for that is around its variable in its block, by the places of its bounds.
+#[tactic(auto, using(crate::proofs::LoopRules::inside_constant, crate::proofs::LoopRules::inside_none))]
 fn loop_inside(image: &[u32], from: usize, to: usize) -> ConstantLoop
     requires { (from < length image.now) × (to < length image.now) }
     ensures { result ≡ inside_at image.now from to }
@@ -69,6 +71,7 @@ fn loop_inside(image: &[u32], from: usize, to: usize) -> ConstantLoop
 }
 
 // Both bounds of a for.
+#[tactic(auto, using(crate::proofs::LoopRules::to_fine, crate::proofs::LoopRules::bounds_labelled))]
 pub fn label_bounds(
     image: &[u32],
     table: &[u32; SIZE],

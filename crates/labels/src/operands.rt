@@ -10,6 +10,7 @@ use image_words::lists::element;
 use image_words::{kind, kinds, payload};
 
 // Whether the operand at a place is a constant.
+#[tactic(auto, using(crate::proofs::OperandRules::constant_here))]
 pub fn constant_at(image: &[u32], at: usize) -> bool
     ensures { result ≡ constant_at image.now at }
 {
@@ -18,6 +19,7 @@ pub fn constant_at(image: &[u32], at: usize) -> bool
 }
 
 // The value of the constant at a place, 0 where there is none.
+#[tactic(auto, using(crate::proofs::OperandRules::value_constant, crate::proofs::OperandRules::value_raw, crate::proofs::OperandRules::value_none))]
 pub fn value_at(image: &[u32], at: usize) -> u32
     requires { at < length image.now }
     ensures { result ≡ value_at image.now at }
@@ -34,6 +36,7 @@ pub fn value_at(image: &[u32], at: usize) -> u32
 }
 
 // Whether the operand at a place is an index that stays below a length in every run.
+#[tactic(auto, using(crate::proofs::OperandRules::bounded_constant, crate::proofs::OperandRules::bounded_variable, crate::proofs::OperandRules::bounded_binary, crate::proofs::OperandRules::bounded_other))]
 pub fn bounded_at(image: &[u32], bounds: &[u32; BOUNDS], size: u32, at: usize) -> bool
     requires { at < length image.now }
     ensures { result ≡ bounded_at image.now (bounds_in bounds.now) size at }

@@ -20,7 +20,7 @@ use image_words::{op, ops, payload, target};
 use tables::SIZE;
 
 // A block: its statements in order, each with the rc that the one before it leaves.
-#[cycle(label_block_label_for_label_if_label_statement)]
+#[cycle(blocks)]
 pub fn label_block(
     image: &[u32],
     table: &[u32; SIZE],
@@ -61,7 +61,7 @@ pub fn label_block(
 }
 
 // A statement, by its op.
-#[cycle(label_block_label_for_label_if_label_statement)]
+#[cycle(blocks)]
 fn label_statement(
     image: &[u32],
     table: &[u32; SIZE],
@@ -97,7 +97,7 @@ fn label_statement(
 }
 
 // An if: both arms begin with the rc before it, and pc is secret in them if the condition is. Form 1 has no secret branch.
-#[cycle(label_block_label_for_label_if_label_statement)]
+#[cycle(blocks)]
 fn label_if(
     image: &[u32],
     table: &[u32; SIZE],
@@ -134,7 +134,7 @@ fn label_if(
 }
 
 // A for: its bounds use the rc before it, its block is checked with the rc that it ends with when begun from that rc.
-#[cycle(label_block_label_for_label_if_label_statement)]
+#[cycle(blocks)]
 fn label_for(
     image: &[u32],
     table: &[u32; SIZE],

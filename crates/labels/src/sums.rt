@@ -12,6 +12,7 @@ use image_words::lists::{element, wide};
 use image_words::{kind, kinds, payload};
 
 // The place behind an operand that is a variable or a constant.
+#[tactic(auto, using(crate::proofs::SumRules::behind_raw, crate::proofs::SumRules::behind_one))]
 fn behind(image: &[u32], at: usize) -> usize
     requires { at ≤ length image.now }
     ensures { result ≡ behind_at image.now at }
@@ -23,6 +24,7 @@ fn behind(image: &[u32], at: usize) -> usize
 }
 
 // The variable of a for and a constant, in whole numbers: the sum of two words has room in 64 bits.
+#[tactic(auto, using(crate::proofs::SumRules::no_pass, crate::proofs::SumRules::whole_sum))]
 fn sum_below(l: ConstantLoop, c: u32, size: u32) -> bool
     ensures { result ≡ sum_below l c size }
 {
@@ -34,6 +36,7 @@ fn sum_below(l: ConstantLoop, c: u32, size: u32) -> bool
 }
 
 // A variable at `i` and a constant at `c`.
+#[tactic(auto, using(crate::proofs::SumRules::constant_within, crate::proofs::SumRules::sum_taken, crate::proofs::SumRules::sum_none))]
 fn bounded_sum(image: &[u32], bounds: &[u32; BOUNDS], size: u32, i: usize, c: usize) -> bool
     ensures { result ≡ sum_at image.now (bounds_in bounds.now) size i c }
 {
@@ -47,6 +50,7 @@ fn bounded_sum(image: &[u32], bounds: &[u32; BOUNDS], size: u32, i: usize, c: us
 }
 
 // The binary expression at a place: operator 0 over a variable and a constant, in either order.
+#[tactic(auto, using(crate::proofs::SumRules::addition, crate::proofs::SumRules::no_addition))]
 pub fn bounded_addition(image: &[u32], bounds: &[u32; BOUNDS], size: u32, at: usize) -> bool
     requires { at < length image.now }
     ensures { result ≡ addition_at image.now (bounds_in bounds.now) size at }

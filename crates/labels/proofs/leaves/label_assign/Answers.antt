@@ -1,0 +1,11 @@
+-- An assign's expression stands behind its word.
+use Rattle.std.proofs.Common.{rules, refl}
+use Rattle.image_words.specs.StatementParts.{read_assign}
+use Rattle.labels.proofs.LeafRules.{walk_assign}
+use Rattle.labels.proofs.leaves.label_assign.Goals as goal
+
+pub label_expression-e-requires : goal.label_expression-e-requires
+label_expression-e-requires c = read_assign _ _ _ _ _ c.requires.0.read _ refl c.requires.1
+
+pub returns : goal.returns
+returns c = search (walk_assign, rules)
