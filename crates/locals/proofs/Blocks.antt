@@ -1,13 +1,13 @@
 -- The rules of the loop over the statements of a block. Assumes nothing.
 use Prim.Native.Nat.{ℕ, ◌+◌, ◌-◌, ◌≤◌, ◌<◌, max}
-use mathlib.Core.Bool.{true, ◌||◌, or_assoc}
+use mathlib.Core.Bool.{true, or_assoc}
 use mathlib.Core.List.{List}
 use mathlib.Core.Path.{◌≡◌, refl, sym, ap, ◌∙◌}
 use native.Mathlib.Omega.{arith}
 use lib.ListN.{get_or}
 use Rattle.definitions.specs.Image.{payload_of, Statement, Block, done, sequence, Procedure}
 use Rattle.definitions.specs.Reading.{Parse, got, refused, read_statement, read_block}
-use Rattle.definitions.specs.Labels.{rc_after, rc_after_block}
+use Rattle.definitions.specs.Labels.{rc_after}
 use Rattle.definitions.specs.Compiling.{statement_nesting, block_nesting, statement_needs}
 use Rattle.laws.specs.Parses.{ok, end_of}
 use Rattle.laws.specs.Tests.{or_false}

@@ -74,7 +74,7 @@ fn find_call(image: &[u32], table: &[u32; SIZE], scope: Scope, behind: Found, f:
 }
 
 // A statement.
-#[cycle(find_block_find_for_find_if_find_statement)]
+#[cycle(blocks)]
 fn find_statement(
     image: &[u32],
     table: &[u32; SIZE],
@@ -115,7 +115,7 @@ fn find_statement(
 }
 
 // An if: one level more than its arms have, if it is secret.
-#[cycle(find_block_find_for_find_if_find_statement)]
+#[cycle(blocks)]
 fn find_if(
     image: &[u32],
     table: &[u32; SIZE],
@@ -160,7 +160,7 @@ fn find_if(
 }
 
 // A for: its body begins with the rc that it ends with when begun from the rc before it.
-#[cycle(find_block_find_for_find_if_find_statement)]
+#[cycle(blocks)]
 fn find_for(
     image: &[u32],
     table: &[u32; SIZE],
@@ -198,7 +198,7 @@ fn find_for(
 }
 
 // The statements of a block.
-#[cycle(find_block_find_for_find_if_find_statement)]
+#[cycle(blocks)]
 pub fn find_block(
     image: &[u32],
     table: &[u32; SIZE],
