@@ -201,7 +201,7 @@ fn emit_for_head(
 }
 
 // A statement.
-#[cycle(emit_block_emit_body_emit_for_emit_if_emit_public_if_emit_secret_if_emit_statement)]
+#[cycle(statements)]
 fn emit_statement(
     image: &[u32],
     table: &[u32; SIZE],
@@ -228,7 +228,7 @@ fn emit_statement(
 }
 
 // An if, by the label of its condition.
-#[cycle(emit_block_emit_body_emit_for_emit_if_emit_public_if_emit_secret_if_emit_statement)]
+#[cycle(statements)]
 fn emit_if(
     image: &[u32],
     table: &[u32; SIZE],
@@ -252,7 +252,7 @@ fn emit_if(
 }
 
 // A secret if: T and E are the pair of its level, and the arms follow in line.
-#[cycle(emit_block_emit_body_emit_for_emit_if_emit_public_if_emit_secret_if_emit_statement)]
+#[cycle(statements)]
 fn emit_secret_if(
     image: &[u32],
     table: &[u32; SIZE],
@@ -325,7 +325,7 @@ fn emit_secret_if(
 }
 
 // A public if keeps its form.
-#[cycle(emit_block_emit_body_emit_for_emit_if_emit_public_if_emit_secret_if_emit_statement)]
+#[cycle(statements)]
 fn emit_public_if(
     image: &[u32],
     table: &[u32; SIZE],
@@ -366,7 +366,7 @@ fn emit_public_if(
 }
 
 // A for keeps its form; its body begins with the rc that it ends with when begun from the rc before it.
-#[cycle(emit_block_emit_body_emit_for_emit_if_emit_public_if_emit_secret_if_emit_statement)]
+#[cycle(statements)]
 fn emit_for(
     image: &[u32],
     table: &[u32; SIZE],
@@ -407,7 +407,7 @@ fn emit_for(
 }
 
 // A block with its own count, which is written once it is known.
-#[cycle(emit_block_emit_body_emit_for_emit_if_emit_public_if_emit_secret_if_emit_statement)]
+#[cycle(statements)]
 fn emit_body(
     image: &[u32],
     table: &[u32; SIZE],
@@ -436,7 +436,7 @@ fn emit_body(
 }
 
 // The statements of a block, in line with those before them.
-#[cycle(emit_block_emit_body_emit_for_emit_if_emit_public_if_emit_secret_if_emit_statement)]
+#[cycle(statements)]
 pub fn emit_block(
     image: &[u32],
     table: &[u32; SIZE],
