@@ -1,13 +1,11 @@
 -- The loops over a block's statements and over a for's passes: what is left, and what a turn makes of it. Assumes nothing.
-use mathlib.Core.Path.{◌≡◌, sym, ap, ◌∙◌}
-use mathlib.Core.Logic.{◌⊎◌, inl, inr}
+use mathlib.Core.Path.{◌≡◌, refl, sym, ap, ◌∙◌}
 use mathlib.Core.Bool.{true}
 use mathlib.Core.List.{List}
 use Prim.Native.Nat.{ℕ, suc, ◌+◌, ◌-◌, ◌≤◌, ◌<◌}
 use native.Mathlib.Omega.{arith}
 use borrow.Author.Tests.{lt-ltb, le-ltb}
 use lib.ListN.{get_or, set}
-use denote.Enum.Declared.{tag_of}
 use Rattle.definitions.specs.Image.{payload_of, Statement, Block, sequence, Image}
 use Rattle.definitions.specs.Reading.{Parse, got, read_statement, read_block}
 use Rattle.definitions.specs.Running.{on, halt, and_go, tick, after, passes, Body, Outcome, next, back, run_statement, run_block, Ran as Run}
@@ -22,17 +20,15 @@ use Rattle.simple_statements.specs.declared.Ran.TheVariants.{On, Back, Stop as H
 use Rattle.simple_statements.specs.Runs.{Went, went, finished, placed, ending, callees, statement_at}
 use Rattle.runner.specs.Runs.{block_at, passes_at}
 use Rattle.runner.specs.Results.{ending_on}
-use Rattle.simple_statements.specs.contracts.Ran.{the_type}
 
 -- ---- an answer that ends the run: a return or a stop
 
 abbrev pub Ended : Ran → Type 0
-Ended r = (tag_of the_type r ≡ 1) ⊎ (tag_of the_type r ≡ 2)
+Ended r = (m u z : ℕ) → r ≡ On m u z → ⊥
 
-not_on : (r : Ran) → Ended r → (vs cs slice : List ℕ) (n : ℕ) (ws ds : List ℕ) (i : ℕ) (t : Log) → finished r vs cs slice ≡ on (went n ws ds) i t → ◌≡◌ {A = ℕ} 0 1
+not_on : (r : Ran) → Ended r → (vs cs slice : List ℕ) (n : ℕ) (ws ds : List ℕ) (i : ℕ) (t : Log) → finished r vs cs slice ≡ on (went n ws ds) i t → ⊥
 unfolding finished
-not_on (On m u z) (inl e) vs cs slice n ws ds i t d = cc
-not_on (On m u z) (inr e) vs cs slice n ws ds i t d = cc
+not_on (On m u z) e vs cs slice n ws ds i t d = e m u z refl
 not_on (Back v u z) e vs cs slice n ws ds i t d = cc
 not_on (Halt k q u z) e vs cs slice n ws ds i t d = cc
 
@@ -41,7 +37,7 @@ pub ended : (r : Ran) → Ended r → (vs cs slice : List ℕ) (n : ℕ) (x : Ru
     → (m : ℕ) (f : Body Log) → finished r vs cs slice ≡ ending m (and_go x (after f))
 unfolding ending placed
 ended r e vs cs slice n (on (next ws ds) i t) d m f =
-    let q = not_on r e vs cs slice n ws ds i t d in absurd (omega arith)
+    absurd (not_on r e vs cs slice n ws ds i t d)
 ended r e vs cs slice n (on (back v ds) i t) d m f = d
 ended r e vs cs slice n (halt k q i t) d m f = d
 
@@ -49,7 +45,7 @@ pub ended_same : (r : Ran) → Ended r → (vs cs slice : List ℕ) (n : ℕ) (x
     → (m : ℕ) → finished r vs cs slice ≡ ending m x
 unfolding ending placed
 ended_same r e vs cs slice n (on (next ws ds) i t) d m =
-    let q = not_on r e vs cs slice n ws ds i t d in absurd (omega arith)
+    absurd (not_on r e vs cs slice n ws ds i t d)
 ended_same r e vs cs slice n (on (back v ds) i t) d m = d
 ended_same r e vs cs slice n (halt k q i t) d m = d
 

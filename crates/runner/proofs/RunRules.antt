@@ -1,7 +1,7 @@
 -- What each way out of `run_procedure` gives: the run over bytes as the run over trace words. Assumes nothing.
 use mathlib.Core.Path.{◌≡◌, refl, sym, ap, ◌∙◌}
 use mathlib.Core.List.{List, []}
-use Prim.Native.Nat.{ℕ, ◌*◌, ◌/◌, ◌<◌}
+use Prim.Native.Nat.{ℕ, ◌*◌, ◌/◌}
 use native.Mathlib.Omega.{arith}
 use lib.ListN.{length}
 use Rattle.definitions.specs.Bytes.{bytes_of, lent}
@@ -13,7 +13,6 @@ use Rattle.tracing.specs.Renaming.{map_ran}
 use Rattle.tracing.specs.Painting.{paint, run_painted}
 use Rattle.runner.specs.declared.Finished.{Finished}
 use Rattle.runner.specs.declared.Finished.TheVariants.{Gave, Halt as Halted}
-use Rattle.runner.specs.declared.procedures.Execution.{Execution}
 use Rattle.runner.specs.declared.procedures.Execution.TheVariants.{Done, Stopped}
 use Rattle.runner.specs.Runs.{nine, returned, procedure_run}
 use Rattle.runner.specs.Callees.{callee_at, framed_nine}

@@ -22,7 +22,7 @@ use tables::SIZE;
 use tracing::Value;
 
 // The arm that is taken; the other is passed over by the table of ends.
-#[cycle(run_block_run_body_run_call_run_for_run_if_run_passes_run_statement)]
+#[cycle(running)]
 fn run_if(
     image: &[u32],
     table: &[u32; SIZE],
@@ -89,7 +89,7 @@ fn run_if(
 }
 
 // The passes of the for at `point`, over variable x: each costs a step, and its variable is set before its block.
-#[cycle(run_block_run_body_run_call_run_for_run_if_run_passes_run_statement)]
+#[cycle(running)]
 fn run_passes(
     image: &[u32],
     table: &[u32; SIZE],
@@ -135,7 +135,7 @@ fn run_passes(
 }
 
 // The bounds, then the passes.
-#[cycle(run_block_run_body_run_call_run_for_run_if_run_passes_run_statement)]
+#[cycle(running)]
 fn run_for(
     image: &[u32],
     table: &[u32; SIZE],
@@ -210,7 +210,7 @@ fn frame_of(values: &[u32; PARAMETERS]) -> [u32; VARIABLES]
 }
 
 // The body of procedure f. Its variables stand in this function's own frame, and not in that of each open block.
-#[cycle(run_block_run_body_run_call_run_for_run_if_run_passes_run_statement)]
+#[cycle(running)]
 pub fn run_body(
     image: &[u32],
     table: &[u32; SIZE],
@@ -246,7 +246,7 @@ pub fn run_body(
 }
 
 // The values, the entry, the procedure called; its result goes to the variable.
-#[cycle(run_block_run_body_run_call_run_for_run_if_run_passes_run_statement)]
+#[cycle(running)]
 fn run_call(
     image: &[u32],
     table: &[u32; SIZE],
@@ -308,7 +308,7 @@ fn run_call(
 }
 
 // A statement whose step is taken.
-#[cycle(run_block_run_body_run_call_run_for_run_if_run_passes_run_statement)]
+#[cycle(running)]
 fn run_statement(
     image: &[u32],
     table: &[u32; SIZE],
@@ -345,7 +345,7 @@ fn run_statement(
 }
 
 // The block at a place: each statement begun costs a step.
-#[cycle(run_block_run_body_run_call_run_for_run_if_run_passes_run_statement)]
+#[cycle(running)]
 fn run_block(
     image: &[u32],
     table: &[u32; SIZE],
