@@ -10,7 +10,7 @@ mod sums; // a sum as an index
 mod expressions; // expressions
 mod leaves; // statements that hold no block
 pub mod loops; // the bounds of a for
-mod statements; // statements that hold blocks, and blocks
+mod statement_words; // statements that hold blocks, and blocks
 pub mod procedures; // a whole image
 
 // Passes and upper bound of a variable over which no for with constant bounds stands around this place.

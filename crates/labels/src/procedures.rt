@@ -6,7 +6,7 @@ ghost use Rattle.laws.specs.ImageIn.{image_in};
 ghost use Rattle.tables.specs.Table.{Known};
 ghost use Rattle.tables.specs.Looking.{Listed, procedure_in};
 
-use super::statements::label_block;
+use super::statement_words::label_block;
 use super::{BOUNDS, Scope, UNBOUNDED};
 use contexts::Context;
 use definitions::Fault;

@@ -5,7 +5,7 @@
 mod words; // one word
 mod ends; // the table of block ends
 mod expressions; // expressions and the values of a call
-pub mod statements; // statements and blocks
+pub mod statement_words; // statements and blocks
 mod procedures; // types, procedures, arrays
 pub mod image; // a whole image
 

@@ -7,7 +7,7 @@ ghost use Rattle.reader.specs.Ends.{Sound};
 ghost use Rattle.reader.specs.Left.{ArraysLeft};
 
 use super::Read;
-use super::statements::read_block;
+use super::statement_words::read_block;
 use super::words::word;
 use image_words::limits::largest_level;
 use image_words::valid::{array_word, procedure_word, type_word};

@@ -3,7 +3,7 @@
 #![tactic(auto)]
 
 pub mod parts; // what statements are made of
-pub mod statements; // assign, store and return
+pub mod statement_words; // assign, store and return
 
 // The most values of a call.
 pub const PARAMETERS: usize = 9;

@@ -2,7 +2,7 @@
 use Rattle.std.proofs.Common.{refl}
 use Rattle.image_words.specs.StatementParts.{read_store}
 use Rattle.simple_statements.proofs.StatementRules.{store_stopped, stored_read, store_stopped2, store_done}
-use Rattle.simple_statements.proofs.statements.run_store.Goals as goal
+use Rattle.simple_statements.proofs.statement_words.run_store.Goals as goal
 
 pub slot-r-requires : goal.slot-r-requires
 slot-r-requires c = ((read_store _ _ _ _ _ c.requires.0.read _ refl c.requires.2).first, c.requires.1)

@@ -5,7 +5,7 @@ use Rattle.image_words.specs.Read.{statements_at}
 use Rattle.tables.specs.Table.{params_in}
 use Rattle.reader.specs.Answers.{answer}
 use Rattle.reader.specs.Ends.{Sound}
-use Rattle.reader.proofs.statements.+blocks.Given as goal
+use Rattle.reader.proofs.statement_words.+blocks.Given as goal
 
 abbrev pub decreases-read_block : goal.decreases-read_block
 decreases-read_block l = 4 * l.level

@@ -2,7 +2,7 @@
 use Rattle.std.proofs.Common.{refl}
 use Rattle.image_words.specs.StatementParts.{read_assign}
 use Rattle.simple_statements.proofs.StatementRules.{assign_stopped, assign_done}
-use Rattle.simple_statements.proofs.statements.run_assign.Goals as goal
+use Rattle.simple_statements.proofs.statement_words.run_assign.Goals as goal
 
 pub operand-r-requires : goal.operand-r-requires
 operand-r-requires c = (read_assign _ _ _ _ _ c.requires.0.read _ refl c.requires.2, c.requires.1)

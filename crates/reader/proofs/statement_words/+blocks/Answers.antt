@@ -2,7 +2,7 @@
 use Rattle.std.proofs.Common.{arith, rules, ap}
 use mathlib.Core.Bool.{not}
 use Rattle.reader.proofs.StatementRules.{if_two_bad, if_three_bad, if_whole, for_two_bad, for_three_bad, for_whole, statement_if, statement_for, statement_simple, statements_more, block_short, block_whole, block_marked}
-use Rattle.reader.proofs.statements.+blocks.Goals as goal
+use Rattle.reader.proofs.statement_words.+blocks.Goals as goal
 
 pub read_block-returns-in_default-s : goal.read_block-returns-in_default-s
 read_block-returns-in_default-s t c = (block_short _ _ _ _ _ _ c.word-r.ensures _ _ c.in-At.is _ c.block_word.ensures (ap not c.if-not-block_word.false) c.if-level-eq0.false _ c.payload.ensures.0 _ c.read_statements-s.ensures.0 _ _ c.in_default-s.is, c.read_statements-s.ensures.1)

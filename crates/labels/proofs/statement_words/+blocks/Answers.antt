@@ -10,7 +10,7 @@ use Rattle.labels.specs.Enclosing.{bounds_in}
 use Rattle.labels.specs.Blocks.{walked_block}
 use Rattle.labels.proofs.StatementRules.{then_fine, else_fine, walk_if, body_fine, walk_for, block_done}
 use Rattle.labels.proofs.StatementRules.{block_more, block_again}
-use Rattle.labels.proofs.statements.+blocks.Goals as goal
+use Rattle.labels.proofs.statement_words.+blocks.Goals as goal
 
 pub label_block-loop-j-init : goal.label_block-loop-j-init
 label_block-loop-j-init t c = record {

@@ -3,7 +3,7 @@ use Rattle.std.proofs.Common.{arith, refl}
 use Rattle.image_words.specs.StatementParts.{read_return}
 use Rattle.simple_statements.proofs.PartRules.{place_near}
 use Rattle.simple_statements.proofs.StatementRules.{return_stopped, return_full, return_done}
-use Rattle.simple_statements.proofs.statements.run_return.Goals as goal
+use Rattle.simple_statements.proofs.statement_words.run_return.Goals as goal
 
 pub evaluate-r-requires : goal.evaluate-r-requires
 evaluate-r-requires c = (read_return _ _ _ _ _ c.requires.0.read _ refl c.requires.2, c.requires.1)

@@ -7,7 +7,7 @@ use Rattle.image_words.specs.Read.{statements_at}
 use Rattle.tables.specs.Table.{arrays_in, params_in}
 use Rattle.labels.specs.Enclosing.{bounds_in}
 use Rattle.labels.specs.Blocks.{walked_block}
-use Rattle.labels.proofs.statements.+blocks.Given as goal
+use Rattle.labels.proofs.statement_words.+blocks.Given as goal
 
 abbrev pub decreases-label_block : goal.decreases-label_block
 decreases-label_block l = 3 * l.level + 2
