@@ -25,6 +25,7 @@ pub fn sum(a: u64, b: u64) -> u64
 }
 
 // The passes of a for: each has a step of its own.
+#[tactic(auto, using(crate::proofs::SmallRules::product_fits))]
 pub fn repeated(passes: u32, body: u64) -> u64
     requires { body ≤ 4294967296 }
     ensures { (result ≡ capped (passes * (1 + body))) × (result ≤ 4294967296) }

@@ -61,6 +61,7 @@ fn count_procedure(
 }
 
 // The rank of the lowest procedure whose fors have bounds that are not constants, procedure g among them.
+#[tactic(auto, using(crate::proofs::SmallRules::one_of_two, crate::proofs::SmallRules::other_of_two))]
 fn rank_with(c: Counted, g: u32) -> u32
     requires { g ≤ 32 }
     ensures { result ≡ pick c.variable (max (32 - g) c.rank) c.rank }

@@ -55,6 +55,7 @@ fn step(before: Counted, next: usize) -> Counted
 }
 
 // The place of the first for whose bounds are not constants, after one that may be such a for.
+#[tactic(auto, using(crate::proofs::SmallRules::one_of_two, crate::proofs::SmallRules::other_of_two))]
 fn first_place(before: Counted, variable: bool) -> usize
     ensures { result ≡ pick (variable && not before.variable) before.at before.place }
 {
@@ -79,7 +80,7 @@ fn enter(before: Counted, variable: bool, block: usize) -> Counted
 }
 
 // A statement.
-#[cycle(count_block_count_for_count_if_count_statement)]
+#[cycle(blocks)]
 fn count_statement(
     image: &[u32],
     table: &[u32; SIZE],
@@ -144,7 +145,7 @@ fn count_call(
 }
 
 // An if: its step, and the larger of its arms.
-#[cycle(count_block_count_for_count_if_count_statement)]
+#[cycle(blocks)]
 fn count_if(
     image: &[u32],
     table: &[u32; SIZE],
@@ -173,7 +174,7 @@ fn count_if(
 }
 
 // A for: its step, and for each pass a step and what its block costs.
-#[cycle(count_block_count_for_count_if_count_statement)]
+#[cycle(blocks)]
 fn count_for(
     image: &[u32],
     table: &[u32; SIZE],
@@ -204,7 +205,7 @@ fn count_for(
 }
 
 // The statements of a block.
-#[cycle(count_block_count_for_count_if_count_statement)]
+#[cycle(blocks)]
 pub fn count_block(
     image: &[u32],
     table: &[u32; SIZE],
