@@ -1,2 +1,3 @@
 // Laws only: the product's properties, over the definitions and over the C functions (specs/).
+
 #![tactic(auto)]
