@@ -31,7 +31,7 @@ result_word (suc zero) f = refl
 result_word (suc (suc zero)) f = refl
 result_word (suc (suc (suc n))) f = refl
 
-pub ruleset leaf·rules = (sort_known, sort_unknown, operand_word, result_word)
+pub ruleset leaf_rules = (sort_known, sort_unknown, operand_word, result_word)
 
 -- a variable is read, written, or named by a for: two faults are noted, one after the other
 module _ (types marks : List ℕ) (x at : ℕ) (best m r : Fault) (i k : ℕ) (h : m ≡ least best (fault_if (leb (length types) x) 6 at))

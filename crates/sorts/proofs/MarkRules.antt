@@ -12,9 +12,9 @@ use Rattle.definitions.specs.Sorts.{mark_statement, mark_block}
 use Rattle.laws.specs.Parses.{ok, ok_of, end_of, end_of_lem}
 use Rattle.laws.specs.StatementInversion.{open_assign, open_store, open_if, open_for, open_return, open_call}
 use Rattle.image_words.specs.Read.{BlockRead, arguments_at, statements_at}
-use Rattle.image_words.specs.Parts.{told, pair_got}
+use Rattle.image_words.specs.Parts.{told}
 use Rattle.image_words.specs.StatementParts.{no_statement, first_statement, read_if, read_then, read_else, read_bounds}
-use Rattle.image_words.specs.StatementParts.{read_body, read_call}
+use Rattle.image_words.specs.StatementParts.{read_body}
 use Rattle.image_words.specs.Skipping.{Row, skipped_expression, skipped_pair, skipped_two, skipped_arguments}
 use Rattle.image_words.specs.Rest.{statements_left, values_are}
 use Rattle.sorts.specs.Marking.{statement_marks, block_marks}

@@ -16,6 +16,7 @@ use image_words::{kind, kinds, payload, type_sort};
 use tables::{SIZE, array_count};
 
 // A variable's sort.
+#[tactic(auto, using(crate::proofs::LeafRules::sort_known, crate::proofs::LeafRules::sort_unknown))]
 pub fn variable_sort(types: &[u32], x: u32) -> u32
     ensures { result ≡ sort_of types.now x }
 {
@@ -41,6 +42,7 @@ pub fn note_wrong_sort(best: Fault, want: u32, have: u32, place: usize) -> Fault
 }
 
 // A read of a variable: there has to be one, and a loop variable is read only inside its blocks.
+#[tactic(auto, using(crate::proofs::LeafRules::read_notes))]
 fn note_read(types: &[u32], marks: &[u32; 256], x: u32, at: usize, best: Fault) -> Fault
     ensures { result ≡ least (least best (fault_if (leb (length types.now) x) 6 at)) (fault_if (eqb (get_or marks.now x 0) 1) 8 at) }
 {
@@ -49,6 +51,7 @@ fn note_read(types: &[u32], marks: &[u32; 256], x: u32, at: usize, best: Fault) 
 }
 
 // The unary operators: 0 not, 1 complement, 2 boolean as word.
+#[tactic(auto, using(crate::proofs::LeafRules::operand_word))]
 fn unary_operand(op: u32) -> u32
     ensures { result ≡ unary_operand op }
 {
@@ -61,6 +64,7 @@ fn unary_operand(op: u32) -> u32
     WORD
 }
 
+#[tactic(auto, using(crate::proofs::LeafRules::result_word))]
 fn unary_result(op: u32) -> u32
     ensures { result ≡ unary_result op }
 {
@@ -71,7 +75,8 @@ fn unary_result(op: u32) -> u32
 }
 
 // An operand that has to have a sort: the expression, then whether its sort is the one that is wanted.
-#[cycle(check_binary_check_cell_check_expression_check_operand_check_select_check_unary)]
+#[cycle(operands)]
+#[tactic(auto, using(crate::proofs::ExpressionRules::operand_returns))]
 pub fn check_operand(
     image: &[u32],
     table: &[u32; SIZE],
@@ -96,7 +101,8 @@ pub fn check_operand(
 }
 
 // An expression, by the kind of its first word.
-#[cycle(check_binary_check_cell_check_expression_check_operand_check_select_check_unary)]
+#[cycle(operands)]
+#[tactic(auto, using(crate::proofs::ExpressionRules::constant_returns, crate::proofs::ExpressionRules::raw_returns, crate::proofs::ExpressionRules::boolean_returns, crate::proofs::ExpressionRules::variable_returns, image_words::specs::Parts::is_select))]
 fn check_expression(
     image: &[u32],
     table: &[u32; SIZE],
@@ -155,7 +161,8 @@ fn check_expression(
     check_select(image, table, types, marks, at, level, best)
 }
 
-#[cycle(check_binary_check_cell_check_expression_check_operand_check_select_check_unary)]
+#[cycle(operands)]
+#[tactic(auto, using(image_words::specs::Parts::read_cell, crate::proofs::ExpressionRules::cell_returns))]
 fn check_cell(
     image: &[u32],
     table: &[u32; SIZE],
@@ -179,7 +186,8 @@ fn check_cell(
     }
 }
 
-#[cycle(check_binary_check_cell_check_expression_check_operand_check_select_check_unary)]
+#[cycle(operands)]
+#[tactic(auto, using(image_words::specs::Parts::read_unary, crate::proofs::ExpressionRules::unary_returns))]
 fn check_unary(
     image: &[u32],
     table: &[u32; SIZE],
@@ -205,7 +213,8 @@ fn check_unary(
     }
 }
 
-#[cycle(check_binary_check_cell_check_expression_check_operand_check_select_check_unary)]
+#[cycle(operands)]
+#[tactic(auto, using(faults::specs::Parts::operator_limit, image_words::specs::Parts::read_binary, crate::proofs::ExpressionRules::second_fine, crate::proofs::ExpressionRules::binary_returns))]
 fn check_binary(
     image: &[u32],
     table: &[u32; SIZE],
@@ -233,7 +242,8 @@ fn check_binary(
 }
 
 // The condition is a boolean, and the second value has the first one's sort, which is the select's.
-#[cycle(check_binary_check_cell_check_expression_check_operand_check_select_check_unary)]
+#[cycle(operands)]
+#[tactic(auto, using(image_words::specs::Parts::read_condition, crate::proofs::ExpressionRules::values_fine, crate::proofs::ExpressionRules::value_fine, crate::proofs::ExpressionRules::select_returns))]
 fn check_select(
     image: &[u32],
     table: &[u32; SIZE],

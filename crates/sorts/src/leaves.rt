@@ -19,6 +19,7 @@ use image_words::{called, result, target, type_secret, type_sort};
 use tables::{SIZE, array_count, signatures};
 
 // A variable that a statement writes: there has to be one, and no loop variable is written.
+#[tactic(auto, using(crate::proofs::LeafRules::write_notes))]
 fn note_write(types: &[u32], marks: &[u32; 256], x: u32, at: usize, best: Fault) -> Fault
     ensures { result ≡ target_noted types.now marks.now x at best }
 {
@@ -27,6 +28,7 @@ fn note_write(types: &[u32], marks: &[u32; 256], x: u32, at: usize, best: Fault)
 }
 
 // A for's variable: a public word local, over which no for stands around this one.
+#[tactic(auto, using(crate::proofs::LeafRules::loop_notes))]
 pub fn note_loop(
     types: &[u32],
     marks: &[u32; 256],
@@ -47,6 +49,7 @@ pub fn note_loop(
     faults::note(named, broken, 8, at)
 }
 
+#[tactic(auto, using(image_words::specs::StatementParts::read_assign, crate::proofs::StatementRules::assign_returns))]
 pub fn check_assign(
     image: &[u32],
     table: &[u32; SIZE],
@@ -72,6 +75,7 @@ pub fn check_assign(
     }
 }
 
+#[tactic(auto, using(image_words::specs::StatementParts::read_store, crate::proofs::ExpressionRules::second_fine, crate::proofs::StatementRules::store_returns))]
 pub fn check_store(
     image: &[u32],
     table: &[u32; SIZE],
@@ -96,6 +100,7 @@ pub fn check_store(
     }
 }
 
+#[tactic(auto, using(image_words::specs::StatementParts::read_return, crate::proofs::StatementRules::return_returns))]
 pub fn check_return(
     image: &[u32],
     table: &[u32; SIZE],
@@ -120,6 +125,7 @@ pub fn check_return(
 }
 
 // The values of a call of procedure `f`, each of the sort of its parameter.
+#[tactic(auto, using(image_words::specs::Rest::next_argument, crate::proofs::StatementRules::arguments_again, crate::proofs::StatementRules::arguments_more, crate::proofs::StatementRules::arguments_done))]
 fn check_arguments(
     image: &[u32],
     table: &[u32; SIZE],
@@ -152,6 +158,7 @@ fn check_arguments(
     }
 }
 
+#[tactic(auto, using(faults::specs::Parts::call_listed, faults::specs::Parts::call_reads, crate::proofs::StatementRules::call_returns))]
 pub fn check_call(
     image: &[u32],
     table: &[u32; SIZE],

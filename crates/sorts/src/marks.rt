@@ -12,7 +12,8 @@ use image_words::{called, op, ops, payload, target};
 use tables::SIZE;
 
 // A block: its statements in order.
-#[cycle(mark_block_mark_statement)]
+#[cycle(marking)]
+#[tactic(auto, using(image_words::specs::Rest::next_statement, image_words::specs::Rest::block_ready, image_words::specs::Rest::block_begins, crate::proofs::MarkRules::marks_again, crate::proofs::MarkRules::marks_more, crate::proofs::MarkRules::marks_done))]
 pub fn mark_block(
     image: &[u32],
     table: &[u32; SIZE],
@@ -35,7 +36,8 @@ pub fn mark_block(
 }
 
 // A statement, by its op.
-#[cycle(mark_block_mark_statement)]
+#[cycle(marking)]
+#[tactic(auto, using(crate::proofs::MarkRules::assign_marks, crate::proofs::MarkRules::store_marks, crate::proofs::MarkRules::return_marks))]
 fn mark_statement(
     image: &[u32],
     table: &[u32; SIZE],

@@ -17,6 +17,7 @@ use tables::SIZE;
 use tables::signatures::result_type;
 
 // The procedure numbered `me`: its loop variables are marked before its statements are judged.
+#[tactic(auto, using(faults::specs::Bodies::types_begin, faults::specs::Bodies::types_end, faults::specs::Bodies::body_fine, crate::proofs::ProcedureRules::procedure_checked))]
 fn check_procedure(image: &[u32], table: &[u32; SIZE], me: u32, best: Fault) -> Fault
     requires { Listed image.now table.now me }
     ensures { result ≡ least best (procedure_sort_faults (procedures_in image.now) (array_count_in table.now) (procedure_in image.now me)) }
@@ -38,6 +39,7 @@ fn check_procedure(image: &[u32], table: &[u32; SIZE], me: u32, best: Fault) -> 
 }
 
 // The lowest of the faults 6 to 8 of an image that was read.
+#[tactic(auto, using(crate::proofs::ProcedureRules::image_begins, faults::specs::Bodies::count_known, faults::specs::Bodies::procedure_listed, faults::specs::Rest::procedures_done, faults::specs::Rest::procedures_more))]
 pub fn check_image(image: &[u32], table: &[u32; SIZE]) -> Fault
     requires { Known image.now table.now }
     ensures { result ≡ least no_fault (image_sort_faults (image_in image.now)) }

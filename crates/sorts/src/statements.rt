@@ -17,7 +17,8 @@ use image_words::{op, ops, payload, target};
 use tables::SIZE;
 
 // A block: its statements in order.
-#[cycle(check_block_check_for_check_if_check_statement)]
+#[cycle(blocks)]
+#[tactic(auto, using(image_words::specs::Rest::next_statement, image_words::specs::Rest::block_ready, image_words::specs::Rest::block_begins, crate::proofs::BlockRules::block_again, crate::proofs::BlockRules::block_more, crate::proofs::BlockRules::block_done))]
 pub fn check_block(
     image: &[u32],
     table: &[u32; SIZE],
@@ -50,7 +51,8 @@ pub fn check_block(
 }
 
 // A statement, by its op.
-#[cycle(check_block_check_for_check_if_check_statement)]
+#[cycle(blocks)]
+#[tactic(auto, using(image_words::specs::StatementParts::is_call))]
 fn check_statement(
     image: &[u32],
     table: &[u32; SIZE],
@@ -84,7 +86,8 @@ fn check_statement(
     check_call(image, table, types, marks, scope, at, level, best)
 }
 
-#[cycle(check_block_check_for_check_if_check_statement)]
+#[cycle(blocks)]
+#[tactic(auto, using(image_words::specs::StatementParts::read_if, crate::proofs::BlockRules::then_fine, crate::proofs::BlockRules::else_fine, crate::proofs::BlockRules::if_returns))]
 fn check_if(
     image: &[u32],
     table: &[u32; SIZE],
@@ -105,7 +108,8 @@ fn check_if(
 }
 
 // A for: inside its block its variable may be read, and no other for is over it.
-#[cycle(check_block_check_for_check_if_check_statement)]
+#[cycle(blocks)]
+#[tactic(auto, using(image_words::specs::StatementParts::read_bounds, crate::proofs::ExpressionRules::second_fine, crate::proofs::BlockRules::body_fine, crate::proofs::BlockRules::for_returns, faults::specs::Parts::put_back))]
 fn check_for(
     image: &[u32],
     table: &[u32; SIZE],
