@@ -129,7 +129,7 @@ run_if-run_block-requires t c =
 
 pub run_if-returns-then-d-eq0 : goal.run_if-returns-then-d-eq0
 run_if-returns-then-d-eq0 t c =
-    else_done _ _ c.args.table.now _ _ c.requires.0 c.requires.2 _ _ _ _ _ _ _ _ c.branch-r.ensures _ _ _ c.in_Got-r.is _ c.block_end-at.ensures c.if-d-eq0.true _ _ _ _ c.run_block.ensures
+    else_done _ _ c.args.table.now _ _ c.requires.0 c.requires.2 _ _ _ _ _ _ _ _ c.branch-r.ensures _ _ _ c.in_Got-r.is _ c.block_end-at.ensures (omega arith) _ _ _ _ c.run_block.ensures
 
 pub run_if-run_block-s-requires : goal.run_if-run_block-s-requires
 run_if-run_block-s-requires t c =
@@ -137,15 +137,15 @@ run_if-run_block-s-requires t c =
 
 pub run_if-returns-in_default : goal.run_if-returns-in_default
 run_if-returns-in_default t c =
-    then_ended _ _ c.args.table.now _ _ c.requires.0 c.requires.2 _ _ _ _ _ _ _ _ c.branch-r.ensures _ _ _ c.in_Got-r.is c.if-d-eq0.false _ _ _ _ c.run_block-s.ensures c.in_default.not-On
+    then_ended _ _ c.args.table.now _ _ c.requires.0 c.requires.2 _ _ _ _ _ _ _ _ c.branch-r.ensures _ _ _ c.in_Got-r.is (λ e. absurd (omega arith)) _ _ _ _ c.run_block-s.ensures c.in_default.not-On
 
 pub run_if-block_end-requires : goal.run_if-block_end-requires
 run_if-block_end-requires t c =
-    (c.requires.1.block_ends, (else_passed _ _ c.args.table.now _ _ c.requires.0 c.requires.2 _ _ _ _ _ _ _ _ c.branch-r.ensures _ _ _ c.in_Got-r.is c.if-d-eq0.false _ _ _ _ c.run_block-s.ensures _ _ _ c.in-On.is).read)
+    (c.requires.1.block_ends, (else_passed _ _ c.args.table.now _ _ c.requires.0 c.requires.2 _ _ _ _ _ _ _ _ c.branch-r.ensures _ _ _ c.in_Got-r.is (λ e. absurd (omega arith)) _ _ _ _ c.run_block-s.ensures _ _ _ c.in-On.is).read)
 
 pub run_if-returns : goal.run_if-returns
 run_if-returns t c =
-    then_done _ _ c.args.table.now _ _ c.requires.0 c.requires.2 _ _ _ _ _ _ _ _ c.branch-r.ensures _ _ _ c.in_Got-r.is c.if-d-eq0.false _ _ _ _ c.run_block-s.ensures _ _ _ c.in-On.is _ c.block_end.ensures
+    then_done _ _ c.args.table.now _ _ c.requires.0 c.requires.2 _ _ _ _ _ _ _ _ c.branch-r.ensures _ _ _ c.in_Got-r.is (λ e. absurd (omega arith)) _ _ _ _ c.run_block-s.ensures _ _ _ c.in-On.is _ c.block_end.ensures
 
 pub run_passes-returns-then-scope-steps : goal.run_passes-returns-then-scope-steps
 run_passes-returns-then-scope-steps t c =
