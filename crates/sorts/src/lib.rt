@@ -6,7 +6,7 @@ use definitions::Fault;
 
 mod expressions; // expressions
 mod leaves; // statements that hold no block
-mod statements; // statements that hold blocks, and blocks
+mod statement_words; // statements that hold blocks, and blocks
 mod marks; // which variables are loop variables
 pub mod procedures; // a whole image
 

@@ -7,7 +7,7 @@ ghost use Rattle.tables.specs.Table.{array_count_in, Known};
 ghost use Rattle.tables.specs.Looking.{Listed, procedure_in};
 
 use super::marks::mark_block;
-use super::statements::check_block;
+use super::statement_words::check_block;
 use super::{ORDINARY, Scope};
 use definitions::Fault;
 use image_words::limits::largest_level;

@@ -7,7 +7,7 @@ use Rattle.laws.specs.ImageIn.{procedures_in}
 use Rattle.image_words.specs.Read.{statements_at}
 use Rattle.tables.specs.Table.{array_count_in, params_in}
 use Rattle.sorts.specs.Walk.{block_walked}
-use Rattle.sorts.proofs.statements.+blocks.Given as goal
+use Rattle.sorts.proofs.statement_words.+blocks.Given as goal
 
 abbrev pub decreases-check_block : goal.decreases-check_block
 decreases-check_block l = 3 * l.level

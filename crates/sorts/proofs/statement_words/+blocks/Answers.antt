@@ -9,7 +9,7 @@ use Rattle.faults.specs.Parts.{put_back}
 use Rattle.sorts.specs.Walk.{block_walked}
 use Rattle.sorts.proofs.ExpressionRules.{second_fine}
 use Rattle.sorts.proofs.BlockRules.{block_done, block_again, block_more, then_fine, else_fine, if_returns, body_fine, for_returns}
-use Rattle.sorts.proofs.statements.+blocks.Goals as goal
+use Rattle.sorts.proofs.statement_words.+blocks.Goals as goal
 
 pub check_block-loop-k-init : goal.check_block-loop-k-init
 check_block-loop-k-init t c = (
