@@ -13,6 +13,7 @@ use reader::Read;
 use tables::SIZE;
 
 // The lowest fault of an image that was read: of 6 to 8, and where it has none of 9 to 13.
+#[tactic(auto, using(crate::proofs::VerdictRules::fault_sorts, crate::proofs::VerdictRules::fault_labels))]
 fn lowest_fault(image: &[u32], table: &[u32; SIZE]) -> Fault
     requires { Known image.now table.now }
     ensures { result ≡ fault_of (image_in image.now) }
@@ -25,6 +26,7 @@ fn lowest_fault(image: &[u32], table: &[u32; SIZE]) -> Fault
 }
 
 // The verdict on an image that was read.
+#[tactic(auto, using(crate::proofs::VerdictRules::verdict_refused, crate::proofs::VerdictRules::verdict_accepted))]
 fn verdict(image: &[u32], table: &[u32; SIZE]) -> Checked
     requires { Known image.now table.now }
     ensures { result ≡ checked true image.now }
@@ -37,6 +39,7 @@ fn verdict(image: &[u32], table: &[u32; SIZE]) -> Checked
 }
 
 // Checks an image and leaves the reader's tables for the passes after; both come as zeros. `whole` tells whether the image came as whole words.
+#[tactic(auto, using(crate::proofs::VerdictRules::refused_is, crate::proofs::VerdictRules::verdict_asks, crate::proofs::VerdictRules::accepted_is))]
 pub fn check_with(image: &[u32], whole: bool, table: &mut [u32; SIZE], ends: &mut [u16]) -> Checked
     requires { (table.old ≡ replicate 129 0) × (ends.old ≡ replicate (length ends.old) 0) }
     ensures { (result ≡ checked whole image.now)
