@@ -26,6 +26,7 @@ pub enum Ready {
 }
 
 // Whether enough cells are lent for an image that was accepted.
+#[tactic(auto, using(crate::proofs::Rules::count_few, crate::proofs::Rules::count_enough))]
 fn with_cells(table: &[u32; SIZE], count: usize) -> Ready
     requires { array_count_in table.now ≤ 16 }
     ensures { result ≡ counted_on (cell_count (arrays_in table.now)) count }
