@@ -1,16 +1,16 @@
 -- Expressions in a row, passed over without a look at what they compute. Assumes nothing.
 use Rattle.std.specs.Prelude.{ℕ, zero, suc, ◌+◌, ◌-◌, ◌≤◌, ◌<◌, true, List, [], ◌∷◌, ◌≡◌, refl, eqb, leb, length, get_or}
-use Rattle.std.proofs.Common.{sym, ap, ◌∙◌, add-zero, add-one, arith}
+use Rattle.std.proofs.Common.{ap, ◌∙◌, add-zero, add-one, arith}
 use Rattle.definitions.specs.Choice.{pick}
-use Rattle.definitions.specs.Image.{kind_of, expression_word, Expression}
-use Rattle.definitions.specs.Reading.{Parse, got, read_expression}
+use Rattle.definitions.specs.Image.{kind_of, Expression}
+use Rattle.definitions.specs.Reading.{got, read_expression}
 use Rattle.laws.specs.Parses.{ok, ok_of, end_of, end_of_lem, got_ok, got_same}
 use Rattle.laws.specs.Levels.{grow_got, grow_expression}
 use Rattle.laws.specs.WordTests.{kinds}
 use Rattle.laws.specs.Places.{expression_after, expression_within}
 use Rattle.laws.specs.ExpressionInversion.{open_expression, open_constant, open_raw, open_boolean, open_variable}
 use Rattle.laws.specs.ExpressionInversion.{open_cell, open_unary, open_binary, open_select}
-use Rattle.image_words.specs.Read.{ExpressionRead, PairRead, arguments_at}
+use Rattle.image_words.specs.Read.{PairRead, arguments_at}
 use Rattle.image_words.specs.Parts.{pair_got}
 use Rattle.image_words.specs.StatementParts.{no_argument, first_argument}
 

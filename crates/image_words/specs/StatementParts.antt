@@ -1,6 +1,6 @@
 -- The parts of a statement or a block that was read were read too, each where the one before it ends; op is the
 -- statement's. Assumes nothing.
-use Rattle.std.specs.Prelude.{ℕ, zero, suc, ◌+◌, ◌-◌, ◌<◌, true, List, [], ◌∷◌, ◌≡◌, length, get_or}
+use Rattle.std.specs.Prelude.{ℕ, zero, suc, ◌+◌, ◌-◌, ◌<◌, true, List, [], ◌∷◌, ◌≡◌, get_or}
 use Rattle.std.proofs.Common.{ap, ◌∙◌, arith}
 use Rattle.definitions.specs.Image.{payload_of, op_of, called_of, Expression, Statement, Block, done, sequence}
 use Rattle.definitions.specs.Reading.{got, read_expression, read_statement, read_block}

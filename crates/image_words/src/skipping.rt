@@ -23,6 +23,7 @@ fn operand_count(k: u32) -> usize
 
 // The place after `count` expressions in a row, which were read. A raw constant, which alone has two words, is a branch of its own: the next
 // word is then looked at without waiting for the kind of this one.
+#[tactic(auto, using(crate::proofs::SkipRules::passing_first, crate::proofs::SkipRules::passing_within, crate::proofs::SkipRules::passing_raw, crate::proofs::SkipRules::passing_other, crate::proofs::SkipRules::passing_room, crate::proofs::SkipRules::passing_last))]
 pub fn skip(image: &[u32], at: usize, count: usize) -> usize
     requires { Skippable image.now count at }
     ensures { Row image.now count at result }

@@ -1,5 +1,5 @@
 -- The table with one array more, or one procedure more. Assumes nothing.
-use Rattle.std.specs.Prelude.{ℕ, suc, ◌+◌, ◌≤◌, ◌<◌, List, [], ◌∷◌, ◌++◌, map, ◌≡◌, refl, length, get_or, set, drop, replicate}
+use Rattle.std.specs.Prelude.{ℕ, suc, ◌+◌, ◌≤◌, ◌<◌, List, [], ◌∷◌, ◌++◌, map, ◌≡◌, refl, length, set, replicate}
 use Rattle.std.proofs.Common.{sym, ap, ◌∙◌, zero-add, arith, length-append}
 use Rattle.definitions.specs.Image.{array_length, cell_count, Procedure}
 use Rattle.tables.specs.Table.{padded, bases_from, body_place, places, body_places, arities, table_of, params_in}

@@ -1,7 +1,7 @@
 -- What the table of an image that was read tells: its array words, where their cells begin, and of each procedure where
 -- its words stand and how its body reads. Assumes nothing.
 use Prim.Native.Nat.{ℕ, zero, suc, ◌+◌, ◌≤◌, ◌<◌}
-use Rattle.std.specs.Prelude.{true, List, [], ◌∷◌, ◌++◌, map, ◌≡◌, refl, length, get_or, drop}
+use Rattle.std.specs.Prelude.{true, List, [], ◌∷◌, ◌++◌, map, ◌≡◌, length, get_or, drop}
 use Rattle.std.proofs.Common.{sym, ◌∙◌, arith, length-take, length-drop, ext_get_or, get_or-take, get_or-drop}
 use Rattle.std.proofs.Math.Path.{ap}
 use Rattle.std.proofs.Math.Nat.{zero-add}
@@ -9,7 +9,6 @@ use Rattle.std.proofs.Math.ListN.{take}
 use Rattle.definitions.specs.Image.{array_length, base_of, cell_count, form_of, mode_of, parameters_of, locals_of, procedures_of}
 use Rattle.definitions.specs.Image.{largest_level, Procedure, procedure_at, no_procedure}
 use Rattle.definitions.specs.Reading.{got, read_block}
-use Rattle.laws.specs.Parses.{ok, ok_of}
 use Rattle.laws.specs.WordTests.{procedure_limits, most_locals_lem}
 use Rattle.laws.specs.Places.{block_ends_lem}
 use Rattle.laws.specs.ReadImages.{ProcedureWords, ImageWords}

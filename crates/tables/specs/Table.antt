@@ -1,7 +1,7 @@
 -- The table that reading an image leaves for the passes after: of each array its word and where its cells begin, of each
 -- procedure its place, the place of its body and the number of its parameters. Assumes nothing.
 use Rattle.std.specs.Prelude.{ℕ, ◌+◌, ◌-◌, true, List, [], ◌∷◌, ◌++◌, map, ◌≡◌, length, get_or, take, drop, replicate}
-use Rattle.definitions.specs.Image.{array_length, Procedure, Image}
+use Rattle.definitions.specs.Image.{array_length, Procedure}
 use Rattle.definitions.specs.Reading.{read_image}
 use Rattle.laws.specs.Parses.{ok}
 use Rattle.laws.specs.ImageIn.{image_in}
