@@ -80,10 +80,10 @@ check_refused_fits a k p h s = rw s at h
 pub compile_refused_fits : (a : Compiled) (k p : ℕ) → compiled_place a < 4294967296 → a ≡ CompileRefused k p → p < 4294967296
 compile_refused_fits a k p h s = rw s at h
 
-pub ruleset answer·rules = (put_done, put_stopped, put_refused, stopped_fits, refused_fits)
+pub ruleset answer_rules = (put_done, put_stopped, put_refused, stopped_fits, refused_fits)
 
-pub ruleset checked·rules = (put_accepted, put_check_refused, check_refused_fits)
+pub ruleset checked_rules = (put_accepted, put_check_refused, check_refused_fits)
 
-pub ruleset compiled·rules = (put_written, put_compile_refused, compile_refused_fits)
+pub ruleset compiled_rules = (put_written, put_compile_refused, compile_refused_fits)
 
-pub ruleset compared·rules = (put_agree, put_part)
+pub ruleset compared_rules = (put_agree, put_part)

@@ -6,6 +6,7 @@ ghost use Rattle.definitions.specs.Host.{layout, answer_words, checked_words, co
 ghost use Rattle.results.specs.Named.{answer_place, checked_place, compiled_place};
 
 // A slice that is too short for the seven words stays as it is.
+#[tactic(auto, using(crate::proofs::Rules::layout_short, crate::proofs::Rules::layout_put))]
 fn put_layout(
     slice: &mut [u8],
     status: u32,
