@@ -1,12 +1,11 @@
-// The library's C functions. Slices cross as a pointer and a length in bytes, words most significant byte first. Each writes its answer as seven
+// The library's functions on lent bytes, words most significant byte first; the crate tinesage_c hands each to C. Each writes its answer as seven
 // words into the slice lent for it. No function has a condition: every number and every byte gets its answer.
 #![tactic(auto)]
 
 ghost use Rattle.tinesage.specs.Interface.{Checks, Compiles, Describes, Loads, Clears, Pokes, Peeks, Calls, Previews, Bounds, Compares};
 
 // Checks an image.
-#[unsafe(no_mangle)]
-pub extern "C" fn tinesage_check(image: &[u8], answer: &mut [u8])
+pub fn tinesage_check(image: &[u8], answer: &mut [u8])
     ensures { Checks image.now answer.old answer.new }
 {
     let a = lent_images::check_bytes(image);
@@ -14,8 +13,7 @@ pub extern "C" fn tinesage_check(image: &[u8], answer: &mut [u8])
 }
 
 // Compiles an image in source form.
-#[unsafe(no_mangle)]
-pub extern "C" fn tinesage_compile(image: &[u8], out: &mut [u8], answer: &mut [u8])
+pub fn tinesage_compile(image: &[u8], out: &mut [u8], answer: &mut [u8])
     ensures { Compiles image.now out.old answer.old out.new answer.new }
 {
     let a = lent_images::compile_bytes(image, out);
@@ -23,8 +21,7 @@ pub extern "C" fn tinesage_compile(image: &[u8], out: &mut [u8], answer: &mut [u
 }
 
 // Says what an image has: its form, its arrays, its procedures with their types.
-#[unsafe(no_mangle)]
-pub extern "C" fn tinesage_describe(image: &[u8], out: &mut [u8], answer: &mut [u8])
+pub fn tinesage_describe(image: &[u8], out: &mut [u8], answer: &mut [u8])
     ensures { Describes image.now out.old answer.old out.new answer.new }
 {
     let a = lent_images::descriptions::describe_bytes(image, out);
@@ -32,8 +29,7 @@ pub extern "C" fn tinesage_describe(image: &[u8], out: &mut [u8], answer: &mut [
 }
 
 // Loads an image: its cells are 0 afterwards.
-#[unsafe(no_mangle)]
-pub extern "C" fn tinesage_load(image: &[u8], cells: &mut [u8], answer: &mut [u8])
+pub fn tinesage_load(image: &[u8], cells: &mut [u8], answer: &mut [u8])
     ensures { Loads image.now cells.old answer.old cells.new answer.new }
 {
     let a = serving::cells::load(image, cells);
@@ -41,8 +37,7 @@ pub extern "C" fn tinesage_load(image: &[u8], cells: &mut [u8], answer: &mut [u8
 }
 
 // Sets the image's cells to 0.
-#[unsafe(no_mangle)]
-pub extern "C" fn tinesage_clear(image: &[u8], cells: &mut [u8], answer: &mut [u8])
+pub fn tinesage_clear(image: &[u8], cells: &mut [u8], answer: &mut [u8])
     ensures { Clears image.now cells.old answer.old cells.new answer.new }
 {
     let a = serving::cells::clear(image, cells);
@@ -50,8 +45,7 @@ pub extern "C" fn tinesage_clear(image: &[u8], cells: &mut [u8], answer: &mut [u
 }
 
 // Writes one cell.
-#[unsafe(no_mangle)]
-pub extern "C" fn tinesage_poke(
+pub fn tinesage_poke(
     image: &[u8],
     cells: &mut [u8],
     array: u32,
@@ -66,14 +60,7 @@ pub extern "C" fn tinesage_poke(
 }
 
 // Reads one cell.
-#[unsafe(no_mangle)]
-pub extern "C" fn tinesage_peek(
-    image: &[u8],
-    cells: &[u8],
-    array: u32,
-    index: u32,
-    answer: &mut [u8],
-)
+pub fn tinesage_peek(image: &[u8], cells: &[u8], array: u32, index: u32, answer: &mut [u8])
     ensures { Peeks image.now cells.now array index answer.old answer.new }
 {
     let a = serving::cells::peek(image, cells, array, index);
@@ -81,8 +68,7 @@ pub extern "C" fn tinesage_peek(
 }
 
 // Runs a procedure.
-#[unsafe(no_mangle)]
-pub extern "C" fn tinesage_call(
+pub fn tinesage_call(
     image: &[u8],
     cells: &mut [u8],
     procedure: u32,
@@ -99,8 +85,7 @@ pub extern "C" fn tinesage_call(
 }
 
 // Runs a procedure on a copy of the cells.
-#[unsafe(no_mangle)]
-pub extern "C" fn tinesage_preview(
+pub fn tinesage_preview(
     image: &[u8],
     cells: &[u8],
     procedure: u32,
@@ -117,8 +102,7 @@ pub extern "C" fn tinesage_preview(
 }
 
 // Says how many steps a call of a procedure takes at most.
-#[unsafe(no_mangle)]
-pub extern "C" fn tinesage_bound(image: &[u8], cells: &[u8], procedure: u32, answer: &mut [u8])
+pub fn tinesage_bound(image: &[u8], cells: &[u8], procedure: u32, answer: &mut [u8])
     ensures { Bounds image.now cells.now procedure answer.old answer.new }
 {
     let a = serving::bounds::bound(image, cells, procedure);
@@ -126,8 +110,7 @@ pub extern "C" fn tinesage_bound(image: &[u8], cells: &[u8], procedure: u32, ans
 }
 
 // Holds a board probe's recording against a trace.
-#[unsafe(no_mangle)]
-pub extern "C" fn tinesage_compare(trace: &[u8], probe: &[u8], answer: &mut [u8])
+pub fn tinesage_compare(trace: &[u8], probe: &[u8], answer: &mut [u8])
     ensures { Compares trace.now probe.now answer.old answer.new }
 {
     let a = comparing::compare(trace, probe);
