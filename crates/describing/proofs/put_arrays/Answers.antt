@@ -14,4 +14,4 @@ loop-out-preserved c = (
 pub returns : goal.returns
 returns c =
     arrays_done c.args.table.now c.requires c.loop-out.k c.loop-out.p _ _ c.loop-out.invariant.2 _ c.array_count-count.ensures.0
-        (omega (arith, c.wide.ensures))
+    (omega (arith, c.wide.ensures))

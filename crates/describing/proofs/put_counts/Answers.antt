@@ -15,4 +15,4 @@ narrow-requires c = cells_fit _ _ c.requires _ c.cell_count.ensures
 pub returns : goal.returns
 returns c =
     counts_on _ _ c.requires _ _ _ _ _ _ c.form.ensures c.arrays.ensures c.procedures.ensures c.cell_count.ensures c.narrow.ensures _ _ c.put_two-p.ensures _ _
-        c.put_two.ensures
+    c.put_two.ensures

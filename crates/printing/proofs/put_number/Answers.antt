@@ -6,4 +6,4 @@ use Rattle.printing.proofs.put_number.Goals as goal
 pub returns : goal.returns
 returns c =
     number_is c.args.n c.args.at c.decimal-k.result c.decimal-k.new.out c.args.text.now (omega (arith, c.ranges.n)) c.decimal-k.ensures.len
-        c.decimal-k.ensures.in_bounds.0 c.requires _ c.decimal-k.ensures.digits c.copy.ensures
+    c.decimal-k.ensures.in_bounds.0 c.requires _ c.decimal-k.ensures.digits c.copy.ensures
