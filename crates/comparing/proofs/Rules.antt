@@ -12,7 +12,6 @@ use Rattle.definitions.specs.Choice.{pick}
 use Rattle.definitions.specs.Bytes.{word_at, words_of}
 use Rattle.definitions.specs.Image.{kind_of}
 use Rattle.definitions.specs.Encoding.{word_with}
-use Rattle.definitions.specs.declared.Compared.{Compared}
 use Rattle.definitions.specs.declared.Compared.TheVariants.{Agree, Part}
 use Rattle.definitions.specs.Comparing.{Entry, observed, unmatched, observable, trace_entries, probe_entries, same_entry, compared_after, compared}
 use Rattle.definitions.specs.Host.{compare_bytes}
