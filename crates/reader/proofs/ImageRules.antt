@@ -383,6 +383,8 @@ module _ (whole : Bool) (image table ends : List ℕ) where
             → ImageLeft (read_image whole image) image table' ends'
         image_tables table' ends' q = rw image_rest q
 
+pub ruleset image_rules = (image_empty, image_empty_tables, image_header, image_header_tables, header_good, image_short, image_long, image_long_tables, image_whole, image_tables)
+
 -- the tables as they came are of no image yet
 pub whole_asked : (image table ends : List ℕ) → table ≡ replicate 129 0 → ends ≡ replicate (length ends) 0
     → (table ≡ table_of [] []) × Sound image (params_in table) 0 ends

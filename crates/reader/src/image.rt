@@ -66,6 +66,7 @@ fn read_rest(image: &[u32], header: u32, table: &mut [u32; SIZE], ends: &mut [u1
 }
 
 // An image, with tables of zeros. The header comes before the length.
+#[tactic(auto, using(crate::proofs::ImageRules::image_rules))]
 fn read_whole(image: &[u32], whole: bool, table: &mut [u32; SIZE], ends: &mut [u16]) -> Read
     requires { (table.old ≡ table_of [] []) × Sound image.now (params_in table.old) 0 ends.old }
     ensures { (result ≡ answer (get_or image.now 0 0) (read_image whole image.now))
