@@ -1,6 +1,5 @@
 -- What the walk over statements and blocks finds is what the lemmas of Rules and Blocks say of each kind.
 use Rattle.std.proofs.Common.{rules, arith, ◌∙◌, refl}
-use Rattle.image_words.specs.Parts.{told}
 use Rattle.image_words.specs.StatementParts.{read_if, read_bounds}
 use Rattle.image_words.specs.Skipping.{skip_pair}
 use Rattle.image_words.specs.Rest.{block_ready, next_statement}
@@ -81,23 +80,17 @@ find_if-returns t c =
     c.find_block-y.ensures _ _ c.levels_of.ensures.0 c.larger.ensures
 
 pub find_statement-find_if-requires : goal.find_statement-find_if-requires
-find_statement-find_if-requires t c =
-    (search rules, (c.requires.0, c.requires.1, told c.op-op.ensures c.if-op-eq-IF.true))
+find_statement-find_if-requires t c = (search rules, (c.requires.0, c.requires.1, (cc)))
 
 pub find_statement-find_for-requires : goal.find_statement-find_for-requires
-find_statement-find_for-requires t c =
-    (search rules, (c.requires.0, c.requires.1, told c.op-op.ensures c.if-op-eq-FOR.true))
+find_statement-find_for-requires t c = (search rules, (c.requires.0, c.requires.1, (cc)))
 
 pub find_statement-find_call-requires : goal.find_statement-find_call-requires
 find_statement-find_call-requires t c =
-    called_listed _ _ _ _ _ c.requires.0.read _ _ _ c.op-op.ensures c.if-op-eq-CALL.true c.called.ensures.0 c.requires.1
+    called_listed _ _ _ _ _ c.requires.0.read _ _ _ c.op-op.ensures (cc) c.called.ensures.0 c.requires.1
 
 pub find_statement-returns-then-op-eq-CALL : goal.find_statement-returns-then-op-eq-CALL
-find_statement-returns-then-op-eq-CALL t c =
-    found_call _ _ _ c.args.scope c.args.before _ _ _ c.requires.0.read _ c.op-op.ensures _ c.rc_statement-s.ensures _ _
-    c.if-op-eq-CALL.true c.called.ensures.0 c.find_call.ensures
+find_statement-returns-then-op-eq-CALL t c = search (found_call, rules)
 
 pub find_statement-returns : goal.find_statement-returns
-find_statement-returns t c =
-    found_none _ _ _ c.args.scope c.args.before _ _ _ c.requires.0.read _ c.op-op.ensures _ c.rc_statement-s.ensures
-    c.if-op-eq-IF.false c.if-op-eq-FOR.false c.if-op-eq-CALL.false
+find_statement-returns t c = search (found_none, rules)
