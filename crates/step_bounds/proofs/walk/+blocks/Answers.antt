@@ -144,12 +144,10 @@ count_statement-returns-then-o-eq-STORE t c =
     ∙ count_store _ _ c.args.before _ _ _ _ c.requires.0.read _ c.op-o.ensures _ c.if-o-eq-STORE.true c.skip-next-then-o-eq-STORE.ensures
 
 pub count_statement-count_if-requires : goal.count_statement-count_if-requires
-count_statement-count_if-requires t c =
-    (search rules, (c.requires.0, c.requires.1, told c.op-o.ensures c.if-o-eq-IF.true))
+count_statement-count_if-requires t c = (search rules, (c.requires.0, c.requires.1, (cc)))
 
 pub count_statement-count_for-requires : goal.count_statement-count_for-requires
-count_statement-count_for-requires t c =
-    (search rules, (c.requires.0, c.requires.1, told c.op-o.ensures c.if-o-eq-FOR.true))
+count_statement-count_for-requires t c = (search rules, (c.requires.0, c.requires.1, (cc)))
 
 pub count_statement-skip-next-requires-then-o-eq-RETURN :
     goal.count_statement-skip-next-requires-then-o-eq-RETURN
@@ -165,9 +163,4 @@ count_statement-returns-then-o-eq-RETURN t c =
     ∙ count_return _ _ c.args.before _ _ _ _ c.requires.0.read _ c.op-o.ensures _ c.if-o-eq-RETURN.true c.skip-next-then-o-eq-RETURN.ensures
 
 pub count_statement-count_call-requires : goal.count_statement-count_call-requires
-count_statement-count_call-requires t c = (
-  c.requires.0,
-  c.requires.1,
-  told c.op-o.ensures
-      (is_call _ _ _ _ _ c.requires.0.read _ c.op-o.ensures c.if-o-eq-ASSIGN.false c.if-o-eq-STORE.false c.if-o-eq-IF.false c.if-o-eq-FOR.false c.if-o-eq-RETURN.false),
-)
+count_statement-count_call-requires t c = (c.requires.0, c.requires.1, search (told, is_call, rules))
