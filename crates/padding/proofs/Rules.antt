@@ -14,9 +14,9 @@ use Rattle.laws.specs.Tests.{false_true}
 use Rattle.laws.specs.WordsOfBytes.{length_words_of}
 use Rattle.padding.specs.Rule.{unpadded}
 use Rattle.padding.specs.Calling.{procedure, budget, trace_length}
-use Rattle.padding.specs.CompiledWords.{compiled_words, image_words_lem}
+use Rattle.padding.proofs.CompiledWords.{compiled_words, image_words_lem}
 use Rattle.padding.specs.Interface.{AnswersBlock}
-use Rattle.padding.specs.Run.{previewed}
+use Rattle.padding.proofs.Run.{previewed}
 
 -- cells that are not 16
 pub other_length : (b : List ℕ) → (length b / 4 ≡ 16 → ⊥) → AnswersBlock b b 255

@@ -1,5 +1,5 @@
 -- Document 02, wish 14, as clauses: what the routine answers, records and leaves, for every block of 16 cells. The requests are those of the definitions on
--- lent bytes (Host), which the C functions are proved to answer alike. The proofs stand elsewhere, and are cited at the end. Assumes nothing.
+-- lent bytes (Host), which the C functions are proved to answer alike. The proof is padding_check, of proofs/Promise.antt. Assumes nothing.
 use Rattle.std.specs.Prelude.{ℕ, ◌*◌, ◌-◌, ◌≤◌, ◌<◌, false, List, [], ◌∷◌, ◌++◌, ◌≡◌, length, drop, replicate}
 use Rattle.definitions.specs.declared.Answer.TheVariants.{Done}
 use Rattle.definitions.specs.declared.Compiled.TheVariants.{Written}
@@ -9,10 +9,6 @@ use Rattle.statements.specs.Statements.{Iff, Machine, load, call, turn, ending, 
 use Rattle.padding.specs.Rule.{block_cells, unpadded, Unpads}
 use Rattle.padding.specs.Routine.{source, image, image_length}
 use Rattle.padding.specs.Calling.{procedure, budget, trace_length, trace, pokes, DoneInTurn, holding}
-use Rattle.padding.specs.Exactly.{unpadded_exactly, removes}
-use Rattle.padding.specs.CompiledWords.{compiles}
-use Rattle.padding.specs.Run.{loads, answers}
-use Rattle.padding.specs.SourceRun.{source_alike, source_shows}
 
 pub record PaddingCheck : Type 0 where
   -- The rule is the RFC's: the number is how long a padded block's content is, and 255 where the block is not padded.
@@ -39,15 +35,3 @@ pub record PaddingCheck : Type 0 where
   -- but its trace follows the block: that of sixteen 0 is not that of sixteen 1.
   pub source_shows : (call_bytes source (bytes_of (replicate block_cells 0)) procedure [] 100 (replicate 400 0)).2
       ≡ (call_bytes source (bytes_of (replicate block_cells 1)) procedure [] 100 (replicate 400 0)).2 → ⊥
-
-pub padding_check : PaddingCheck
-padding_check =
-    record {
-      rule = unpadded_exactly;
-      removes = removes;
-      compiles = compiles;
-      loads = loads;
-      answers = answers;
-      source_alike = source_alike;
-      source_shows = source_shows;
-    }

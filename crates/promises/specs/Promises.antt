@@ -63,7 +63,8 @@ use Rattle.results.specs.LongestPaths.{longest_path}
 use Rattle.results.proofs.StepBounds.{bounded_or_not, bound_refused_exactly, bound_is_done, bound_leaves, from_image_alone, bound_holds, bound_enough, bound_exact}
 use Rattle.properties.specs.CompiledBytes.{target_accepted, target_tree, target_loads, same_meaning}
 use Rattle.secrecy.specs.Secrecy.{secrecy, served_to_the_end}
-use Rattle.padding.specs.Promise.{PaddingCheck, padding_check}
+use Rattle.padding.specs.Promise.{PaddingCheck}
+use Rattle.padding.proofs.Promise.{padding_check}
 use Rattle.promises.specs.Functions.{check_read, compile_read, request_read, call_read, compare_read}
 use Rattle.statements.specs.Statements
 

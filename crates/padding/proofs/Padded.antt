@@ -1,11 +1,9 @@
--- The rule's number is the one that the proposition gives a block. Assumes nothing.
-use Rattle.std.specs.Prelude.{ℕ, zero, suc, ◌+◌, ◌-◌, ◌≤◌, ◌<◌, Bool, true, false, ◌&&◌, List, [], ◌∷◌, ◌++◌, ◌≡◌, refl, eqb, leb, length, get_or, take, drop, replicate}
-use Rattle.std.proofs.Common.{sym, ap, subst, ◌∙◌, arith, eqb-true, leb-true, le-leb, eq-eqb, length-append, length-drop, take-append-drop, length-take-le, drop_at, get_or-append-add}
+-- A block that is made of its content and its padding passes the rule's test, and one that passes it is made so. Assumes nothing.
+use Rattle.std.specs.Prelude.{ℕ, zero, suc, ◌+◌, ◌-◌, ◌≤◌, true, ◌&&◌, List, [], ◌∷◌, ◌++◌, ◌≡◌, refl, eqb, leb, length, get_or, take, drop, replicate}
+use Rattle.std.proofs.Common.{sym, ap, ◌∙◌, arith, eqb-true, leb-true, le-leb, eq-eqb, length-append, length-drop, take-append-drop, drop_at, get_or-append-add}
 use Rattle.std.proofs.lemmas.List.{length-replicate, get_or-replicate}
-use Rattle.definitions.specs.Choice.{pick}
-use Rattle.statements.specs.Statements.{Iff}
-use Rattle.laws.specs.Tests.{false_true, and_left, and_right}
-use Rattle.padding.specs.Rule.{last_cell, all_hold, ends_in, is_padded, unpadded, Padded, Unpads, padded, otherwise}
+use Rattle.laws.specs.Tests.{and_left, and_right}
+use Rattle.padding.specs.Rule.{last_cell, all_hold, ends_in, is_padded, Padded}
 
 -- cells that all hold n are so many of n, and these do
 all_replicate : (n : ℕ) (cs : List ℕ) → all_hold n cs ≡ true → cs ≡ replicate (length cs) n
@@ -48,7 +46,7 @@ last_is content n h e =
     ap (λ (x : ℕ). get_or (content ++ replicate n n) x 0) k ∙ (get_or-append-add content (replicate n n) (n - 1) 0 ∙ get_or-replicate n (n - 1) n 0 (omega arith))
 
 -- a block that is made so passes the test, and its content is as long as the rule says
-taken_as_padded : (block content : List ℕ) (n : ℕ) → Padded block content n → (is_padded block ≡ true) × (16 - last_cell block ≡ length content)
+pub taken_as_padded : (block content : List ℕ) (n : ℕ) → Padded block content n → (is_padded block ≡ true) × (16 - last_cell block ≡ length content)
 taken_as_padded block content n p =
     let a = length-append content (replicate n n) in
     let b = length-replicate n n in
@@ -61,40 +59,7 @@ taken_as_padded block content n p =
     (rw (p.whole, l, le-leb 1 n some, le-leb n 16 m, d) (replicate_all n n), rw l (omega arith))
 
 -- the test, taken apart
-whole_block : (block : List ℕ) → is_padded block ≡ true → Padded block (take (16 - last_cell block) block) (last_cell block)
+pub whole_block : (block : List ℕ) → is_padded block ≡ true → Padded block (take (16 - last_cell block) block) (last_cell block)
 whole_block block e =
     split (last_cell block) block (eqb-true (length block) 16 (and_left (eqb (length block) 16) (ends_in (last_cell block) block) e))
     (and_right (eqb (length block) 16) (ends_in (last_cell block) block) e)
-
--- The rule gives a block this number, and no other.
-pub unpadded_exactly : (block : List ℕ) (k : ℕ) → Iff (unpadded block ≡ k) (Unpads block k)
-unfolding unpadded
-unpadded_exactly block k = (λ e. subst (λ (x : ℕ). Unpads block x) e (number (is_padded block) refl), back k)
-  where
-    number : (b : Bool) → is_padded block ≡ b → Unpads block (pick b (16 - last_cell block) 255)
-    number true e =
-        let p = whole_block block e in
-        let w = p.whole in
-        let l = length-take-le (16 - last_cell block) block (omega arith) in
-        subst (λ (x : ℕ). Unpads block x) l (padded (take (16 - last_cell block) block) (last_cell block) p)
-    number false e = otherwise (λ content n p. let (t, _) = taken_as_padded block content n p in false_true (sym e ∙ t))
-
-    not_taken : (b : Bool) → is_padded block ≡ b → ((content : List ℕ) (n : ℕ) → Padded block content n → ⊥)
-        → pick b (16 - last_cell block) 255 ≡ 255
-    not_taken true e f = absurd (f (take (16 - last_cell block) block) (last_cell block) (whole_block block e))
-    not_taken false e f = refl
-
-    back : (j : ℕ) → Unpads block j → unpadded block ≡ j
-    back j (padded content n p) = let (t, l) = taken_as_padded block content n p in rw t l
-    back j (otherwise f) = not_taken (is_padded block) refl f
-
--- What is padded by the RFC's formula has the number of its content's length.
-pub removes : (content : List ℕ) → length content < 16 → unpadded (content ++ replicate (16 - length content) (16 - length content)) ≡ length content
-removes content h =
-    let n : ℕ = 16 - length content in
-    let a = length-append content (replicate n n) in
-    let b = length-replicate n n in
-    let w : length (content ++ replicate n n) ≡ 16 = omega arith in
-    let s : 1 ≤ n = omega arith in
-    let (_, back) = unpadded_exactly (content ++ replicate n n) (length content) in
-    back (padded content n (record { whole = w; some = s; ends = refl }))

@@ -24,8 +24,8 @@ use Rattle.properties.specs.CompiledBytes.{same_meaning}
 use Rattle.padding.specs.Rule.{unpadded}
 use Rattle.padding.specs.Routine.{source_words, source, image, image_length}
 use Rattle.padding.specs.Calling.{procedure, budget, trace_length}
-use Rattle.padding.specs.CompiledWords.{image_words_lem, writes}
-use Rattle.padding.specs.Run.{answers}
+use Rattle.padding.proofs.CompiledWords.{image_words_lem, writes}
+use Rattle.padding.proofs.Run.{answers}
 
 unfoldable tree : Image
 tree = tree_of (admitted true source_words)
