@@ -107,9 +107,8 @@ pub fn unpadded_length(block: &[u8]) -> u32
     }
 }
 
-// The same for C: a block's bytes, four a cell, most significant first.
-#[unsafe(no_mangle)]
-pub extern "C" fn tinesage_unpadded_length(block: &[u8]) -> u32
+// The same by the name that it has in C, where the crate padding_c exports it: a block's bytes, four a cell, most significant first.
+pub fn tinesage_unpadded_length(block: &[u8]) -> u32
     ensures { AnswersBlock block.now block.now result }
 {
     unpadded_length(block)
