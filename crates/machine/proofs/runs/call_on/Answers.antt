@@ -1,5 +1,5 @@
 -- `machine::runs::call_on`: refused twice, or run.
-use Rattle.std.proofs.Common.{[], rules}
+use Rattle.std.proofs.Common.{[], rules, arith}
 use Rattle.tables.specs.Looking.{image_some}
 use Rattle.machine.proofs.CallRules.{call_none, call_count, call_ready, call_ran}
 use Rattle.machine.proofs.runs.call_on.Goals as goal
@@ -23,5 +23,5 @@ run-requires c = (
 
 pub returns : goal.returns
 returns c =
-    call_ran _ _ c.requires.1 _ _ _ c.procedures.ensures _ _ _ c.if-procedures-f.false _ _ c.parameters.ensures c.wide.ensures.0 c.if-arguments-wide.false _ _ _
+    call_ran _ _ c.requires.1 _ _ _ c.procedures.ensures _ _ _ c.if-procedures-f.false _ _ c.parameters.ensures c.wide.ensures.0 (omega arith) _ _ _
     c.run.ensures
