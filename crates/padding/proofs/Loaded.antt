@@ -20,9 +20,9 @@ use Rattle.definitions.specs.Host.{whole_words, load_bytes, poke_bytes}
 use Rattle.statements.specs.Statements.{tree_of, Machine, Response, turn}
 use Rattle.statements.specs.Statements
 use Rattle.laws.specs.WordsOfBytes.{length_words_of, length_bytes_of, words_back}
-use Rattle.padding.specs.Routine.{image}
+pub use Rattle.padding.specs.Routine.{image}
 use Rattle.padding.specs.Calling.{array, pokes, DoneInTurn, no_more, one_more, holding}
-use Rattle.padding.proofs.CompiledWords.{compiled_words, image_words_lem}
+pub use Rattle.padding.proofs.CompiledWords.{compiled_words, image_words_lem}
 
 -- ---- the image in force
 

@@ -10,11 +10,9 @@ use Rattle.statements.specs.Statements.{tree_of, Machine, Response, turn}
 use Rattle.statements.specs.Statements
 use Rattle.laws.specs.WordsOfBytes.{length_words_of, length_bytes_of, words_back}
 use Rattle.padding.specs.Rule.{last_cell, unpadded}
-use Rattle.padding.specs.Routine.{image}
 use Rattle.padding.specs.Calling.{procedure, budget, trace_length, indices, trace, holding}
-use Rattle.padding.proofs.CompiledWords.{compiled_words}
 use Rattle.padding.proofs.PassedRule.{passed_rule}
-use Rattle.padding.proofs.Loaded.{whole, words, over_all}
+use Rattle.padding.proofs.Loaded.{image, compiled_words, whole, words, over_all}
 use Rattle.padding.proofs.Computed.{listed, listed_all, came_to, computed}
 
 pub called : (block : List ℕ) → length block ≡ 16 → call true compiled_words block procedure [] budget trace_length
