@@ -48,7 +48,8 @@ fn describe_short(image: &[u8], out: &mut [u8]) -> Compiled
     describe_with(image, out, &mut words)
 }
 
-// An image of any length.
+// An image of any length. Its arrays stand in a frame of their own, which a short image does not need.
+#[inline(never)]
 fn describe_long(image: &[u8], out: &mut [u8]) -> Compiled
     ensures { (result, out.new) ≡ describe_bytes image.now out.old }
 {

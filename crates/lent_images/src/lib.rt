@@ -51,7 +51,8 @@ fn check_short(image: &[u8]) -> Checked
     check_into(image, &mut words)
 }
 
-// An image of any length.
+// An image of any length. Its arrays stand in a frame of their own, which a short image does not need.
+#[inline(never)]
 fn check_long(image: &[u8]) -> Checked
     ensures { result ≡ check_bytes image.now }
 {
@@ -138,7 +139,8 @@ fn compile_short(image: &[u8], out: &mut [u8]) -> Compiled
     compile_with(image, out, &mut words, &mut result)
 }
 
-// An image of any length.
+// An image of any length. Its arrays stand in a frame of their own, which a short image does not need.
+#[inline(never)]
 fn compile_long(image: &[u8], out: &mut [u8]) -> Compiled
     ensures { (result, out.new) ≡ compile_bytes image.now out.old }
 {

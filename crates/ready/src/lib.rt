@@ -118,7 +118,8 @@ fn load_short(image: &[u8], count: usize, table: &mut [u32; SIZE]) -> Ready
     prepare(image, count, &mut words, table, &mut ends)
 }
 
-// An image of any length.
+// An image of any length. Its arrays stand in a frame of their own, which a short image does not need.
+#[inline(never)]
 fn load_long(image: &[u8], count: usize, table: &mut [u32; SIZE]) -> Ready
     requires { table.old ≡ replicate 129 0 }
     ensures { (result ≡ readied (ready_to_load (whole_words image.now) (words_of image.now) count))

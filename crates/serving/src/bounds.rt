@@ -32,7 +32,8 @@ fn bound_short(image: &[u8], cells: &[u8], f: u32) -> Answer
     bound_with(image, cells, f, &mut words)
 }
 
-// An image of any length.
+// An image of any length. Its arrays stand in a frame of their own, which a short image does not need.
+#[inline(never)]
 fn bound_long(image: &[u8], cells: &[u8], f: u32) -> Answer
     ensures { (result, cells.now) ≡ bound_bytes image.now cells.now f }
 {

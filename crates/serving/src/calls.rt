@@ -114,7 +114,8 @@ fn call_short(
     )
 }
 
-// An image of any length.
+// An image of any length. Its arrays stand in a frame of their own, which a short image does not need.
+#[inline(never)]
 fn call_long(
     image: &[u8],
     cells: &mut [u8],

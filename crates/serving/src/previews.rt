@@ -73,7 +73,8 @@ fn preview_short(
     )
 }
 
-// An image of any length.
+// An image of any length. Its arrays stand in a frame of their own, which a short image does not need.
+#[inline(never)]
 fn preview_long(
     image: &[u8],
     cells: &[u8],
