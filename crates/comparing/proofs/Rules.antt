@@ -18,8 +18,7 @@ use Rattle.definitions.specs.Host.{compare_bytes}
 use Rattle.laws.specs.Tests.{false_true, and_right}
 use Rattle.laws.specs.WordsOfBytes.{length_words_of, get_d_words_of}
 use Rattle.comparing.specs.Steps.{begins_with, rest, Stepped}
-use Rattle.comparing.specs.declared.Step.{Step}
-use Rattle.comparing.specs.declared.Step.TheVariants.{On, Parted}
+use Rattle.std.specs.Prelude.{Some, None}
 
 -- two words, and those after them
 two_more : (words : List ℕ) (at : ℕ) → at + 1 < length words → drop at words ≡ get_or words at 0 ∷ get_or words (at + 1) 0 ∷ drop (at + 2) words
@@ -133,7 +132,7 @@ module _ (trace probe : List ℕ) (at n : ℕ) (h : at + 1 < length trace / 4) (
   kind_is : k ≡ kind_of (get_or (words_of trace) at 0)
   kind_is = ek ∙ ap kind_of (ew ∙ sym (get_d_words_of trace at (omega arith)))
 
-  pub advance_passed : kept ≡ false → Stepped (On n) (words_of trace) at (words_of probe) n
+  pub advance_passed : kept ≡ false → Stepped (Some n) (words_of trace) at (words_of probe) n
   unfolding Stepped rest
   advance_passed s = (
     ap (λ (ts : List Entry). compared_after n ts (probe_entries (drop (2 * n) (words_of probe))))
@@ -148,7 +147,7 @@ module _ (trace probe : List ℕ) (at n : ℕ) (h : at + 1 < length trace / 4) (
         trace_kept (words_of trace) at within (rw (← kind_is) (sym eo ∙ o))
         ∙ rw (← kind_is, get_d_words_of trace (at + 1) h, ← ev)
 
-    pub advance_parted : b ≡ false → Stepped Parted (words_of trace) at (words_of probe) n
+    pub advance_parted : b ≡ false → Stepped None (words_of trace) at (words_of probe) n
     unfolding Stepped rest
     advance_parted f =
         rw first_is
@@ -161,7 +160,7 @@ module _ (trace probe : List ℕ) (at n : ℕ) (h : at + 1 < length trace / 4) (
         go true c = false_true (sym (no_next (words_of probe) n (observed k v) (leb-true (length (words_of probe)) (2 * n + 1) c)) ∙ sym eb ∙ t)
         go false c = leb-false (length (words_of probe)) (2 * n + 1) c
 
-    pub advance_equal : b ≡ true → Stepped (On (n + 1)) (words_of trace) at (words_of probe) n
+    pub advance_equal : b ≡ true → Stepped (Some (n + 1)) (words_of trace) at (words_of probe) n
     unfolding Stepped rest
     advance_equal t =
         let pair = probe_pair (words_of probe) n (has_pair t) in (
@@ -180,15 +179,14 @@ module _ (trace probe : List ℕ) where
   begun = refl
 
   module _ (at n : ℕ) (e : rest (words_of trace) at (words_of probe) n ≡ compare_bytes trace probe) where
-    module _ (r : Step) (s : Stepped r (words_of trace) at (words_of probe) n) where
-      pub parted : r ≡ Parted → Part n ≡ compare_bytes trace probe
-      unfolding Stepped
-      parted f = sym (rw f at s) ∙ e
+    pub parted : Stepped None (words_of trace) at (words_of probe) n → Part n ≡ compare_bytes trace probe
+    unfolding Stepped
+    parted s = sym s ∙ e
 
-      pub passed : (m : ℕ) → r ≡ On m
-          → (2 * m ≤ length probe / 4) × (rest (words_of trace) (at + 2) (words_of probe) m ≡ compare_bytes trace probe)
-      unfolding Stepped
-      passed m f = let (q, l) = rw f at s in (rw (← length_words_of probe) l, sym q ∙ e)
+    pub passed : (m next : ℕ) → next ≡ at + 2 → Stepped (Some m) (words_of trace) at (words_of probe) n
+        → (2 * m ≤ length probe / 4) × (rest (words_of trace) next (words_of probe) m ≡ compare_bytes trace probe)
+    unfolding Stepped
+    passed m next on (q, l) = (rw (← length_words_of probe) l, rw on (sym q ∙ e))
 
     module _ (h : length trace / 4 ≤ at + 1) where
       trace_over : trace_entries (drop at (words_of trace)) ≡ []

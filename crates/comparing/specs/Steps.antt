@@ -1,10 +1,8 @@
 -- What a step of the comparison comes to. Assumes nothing.
-use Rattle.std.specs.Prelude.{ℕ, ◌+◌, ◌*◌, ◌≤◌, Bool, false, List, [], ◌∷◌, ◌≡◌, length, drop}
+use Rattle.std.specs.Prelude.{ℕ, ◌+◌, ◌*◌, ◌≤◌, Bool, false, List, [], ◌∷◌, ◌≡◌, length, drop, Option, Some, None}
 use Rattle.definitions.specs.declared.Compared.{Compared}
 use Rattle.definitions.specs.declared.Compared.TheVariants.{Part}
 use Rattle.definitions.specs.Comparing.{Entry, trace_entries, probe_entries, same_entry, compared_after}
-use Rattle.comparing.specs.declared.Step.{Step}
-use Rattle.comparing.specs.declared.Step.TheVariants.{On, Parted}
 
 -- whether the first of some entries is a given one
 unfoldable pub begins_with : Entry → List Entry → Bool
@@ -15,7 +13,7 @@ begins_with e (p ∷ ps) = same_entry e p
 unfoldable pub rest : List ℕ → ℕ → List ℕ → ℕ → Compared
 rest trace at probe n = compared_after n (trace_entries (drop at trace)) (probe_entries (drop (2 * n) probe))
 
--- a step goes on to the next two words of the trace, within the recording, or parts
-unfoldable pub Stepped : Step → List ℕ → ℕ → List ℕ → ℕ → Type 0
-Stepped (On m) trace at probe n = (rest trace at probe n ≡ rest trace (at + 2) probe m) × (2 * m ≤ length probe)
-Stepped Parted trace at probe n = rest trace at probe n ≡ Part n
+-- a step goes on to the next two words of the trace, with so many entries that are equal, within the recording; or the two part
+unfoldable pub Stepped : Option ℕ → List ℕ → ℕ → List ℕ → ℕ → Type 0
+Stepped (Some m) trace at probe n = (rest trace at probe n ≡ rest trace (at + 2) probe m) × (2 * m ≤ length probe)
+Stepped None trace at probe n = rest trace at probe n ≡ Part n

@@ -10,22 +10,16 @@ ghost use Rattle.comparing.specs.Steps.{begins_with, Stepped};
 use definitions::Compared;
 use image_words::kind;
 use image_words::made::word_with;
+use tracing::Entry;
 use words::word;
-
-// What the next two words of the trace come to.
-#[derive(Clone, Copy)]
-enum Step {
-    // on to the next, with so many entries that are equal
-    On(usize),
-    // the trace and the recording part here
-    Parted,
-}
 
 // "only branches, indices and calls"
 fn is_observable(kind: u32) -> bool
     ensures { result ≡ observable kind }
 {
-    (kind == tracing::BRANCH) | ((kind == tracing::INDEX) | (kind == tracing::CALLED))
+    kind == Entry::Branch.number()
+        || kind == Entry::Index.number()
+        || kind == Entry::Called.number()
 }
 
 // Whether the next entry of a recording, after n, has this kind and this value.
@@ -34,45 +28,38 @@ fn is_next(probe: &[u8], n: usize, kind: u32, value: u32) -> bool
     ensures { result ≡ begins_with (observed kind value) (probe_entries (drop (2 * n) (words_of probe.now))) }
 {
     let at = 2 * n;
-    if probe.len() / 4 <= at + 1 {
-        return false;
-    }
-    if word(probe, at) != word_with(kind, 0) {
-        return false;
-    }
-    value == word(probe, at + 1)
+    at + 1 < probe.len() / 4
+        && word(probe, at) == word_with(kind, 0)
+        && value == word(probe, at + 1)
 }
 
-// The two words of the trace at a place, after n entries that are equal.
-fn advance(trace: &[u8], at: usize, probe: &[u8], n: usize) -> Step
+// The two words of the trace at a place, after n entries that are equal: how many are equal then, or none where the trace and the
+// recording part here.
+fn advance(trace: &[u8], at: usize, probe: &[u8], n: usize) -> Option<usize>
     requires { (at + 1 < length trace.now / 4) × (2 * n ≤ length probe.now / 4) }
     ensures { Stepped result (words_of trace.now) at (words_of probe.now) n }
 {
     let w = word(trace, at);
     let k = kind(w);
-    if is_observable(k) {
-        if is_next(probe, n, k, word(trace, at + 1)) {
-            return Step::On(n + 1);
-        }
-        return Step::Parted;
+    if !is_observable(k) {
+        return Some(n);
     }
-    Step::On(n)
+    if is_next(probe, n, k, word(trace, at + 1)) {
+        return Some(n + 1);
+    }
+    None
 }
 
 // Holds a recording against a trace.
 pub fn compare(trace: &[u8], probe: &[u8]) -> Compared
     ensures { result ≡ compare_bytes trace.now probe.now }
 {
-    let words = trace.len() / 4;
-    let mut at = 0;
     let mut n = 0;
-    while at + 1 < words {
-        let s = advance(trace, at, probe, n);
-        let Step::On(m) = s else {
+    for entry in 0..trace.len() / 8 {
+        let Some(equal) = advance(trace, 2 * entry, probe, n) else {
             return Compared::Part(n);
         };
-        n = m;
-        at += 2;
+        n = equal;
     }
     if 2 * n < probe.len() / 4 {
         return Compared::Part(n);

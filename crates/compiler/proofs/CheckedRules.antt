@@ -5,40 +5,35 @@ use mathlib.Core.Path.{◌≡◌, sym, ap, ◌∙◌}
 use mathlib.Core.Bool.{Bool, true}
 use mathlib.Core.List.{List}
 use lib.Dec.{eqb}
-use lib.ListN.{get_or}
 use borrow.Author.Tests.{eq-eqb, ne_eqb}
 use Rattle.definitions.specs.Choice.{pick}
 use Rattle.definitions.specs.declared.Checked.{Checked}
 use Rattle.definitions.specs.declared.Checked.TheVariants.{Refused as NotAccepted}
 use Rattle.definitions.specs.declared.Compiled.{Compiled}
 use Rattle.definitions.specs.declared.Compiled.TheVariants.{Refused}
-use Rattle.definitions.specs.Image.{form_of, Image}
+use Rattle.definitions.specs.Image.{Image}
 use Rattle.definitions.specs.Reading.{Parse, got, refused}
 use Rattle.definitions.specs.Checking.{fault_of, admitted, verdict, checked}
 use Rattle.laws.specs.Admitted.{admit}
 use Rattle.laws.specs.ImageIn.{image_in, image_read}
 use Rattle.tables.specs.Table.{Known}
-use Rattle.tables.specs.Looking.{form_is}
 use Rattle.compiler.specs.Compile.{answer_on, tree_on, compiled_on}
 
 -- ---- an image that was accepted
 
-module _ (words table out : List ℕ) (k : Known words table) (clean : (fault_of (image_in words)).number ≡ 0) (w : ℕ) (e : w ≡ form_of (get_or words 0 0)) where
-  pub form_told : (image_in words).form ≡ w
-  form_told = form_is words table k ∙ sym e
-
+module _ (words table out : List ℕ) (k : Known words table) (clean : (fault_of (image_in words)).number ≡ 0) (w : ℕ) (e : w ≡ (image_in words).form) where
   whole_is : (X : Compiled × List ℕ) → X ≡ pick (eqb (image_in words).form 0) (answer_on (image_in words) out) (Refused 14 0, out) → X ≡ compiled_on true words out
   unfolding compiled_on tree_on
   whole_is X h =
       let (n, r) = image_read words k.read in
       rw (admit true words (image_in words) n r clean) h
 
-  pub form_given : (w ≡ 0 → ⊥) → ◌≡◌ {A = Compiled × List ℕ} (Refused 14 0, out) (compiled_on true words out)
-  form_given h = whole_is (Refused 14 0, out) (rw (ne_eqb (image_in words).form 0 (λ z. h (sym form_told ∙ z))))
+  pub form_given : (w ≡ 0 → ⊥) → (number : ℕ) → number ≡ 14 → ◌≡◌ {A = Compiled × List ℕ} (Refused number 0, out) (compiled_on true words out)
+  form_given h number s = whole_is (Refused number 0, out) (rw (s, ne_eqb (image_in words).form 0 (λ z. h (e ∙ z))))
 
   pub source_written : w ≡ 0 → (r : Compiled) (after : List ℕ) → ◌≡◌ {A = Compiled × List ℕ} (r, after) (answer_on (image_in words) out)
       → ◌≡◌ {A = Compiled × List ℕ} (r, after) (compiled_on true words out)
-  source_written h r after q = whole_is (r, after) (rw (eq-eqb (image_in words).form 0 (form_told ∙ h)) q)
+  source_written h r after q = whole_is (r, after) (rw (eq-eqb (image_in words).form 0 (sym e ∙ h)) q)
 
 -- ---- the checker's answer
 

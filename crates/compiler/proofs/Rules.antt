@@ -1,63 +1,37 @@
--- What the returns of the emission of procedures give, and what their calls ask. Assumes nothing.
-use Prim.Native.Nat.{ℕ, suc, ◌+◌, ◌-◌, ◌≤◌, ◌<◌}
-use mathlib.Core.List.{List, [], ◌∷◌, flat_map}
+-- The procedures that are left to emit. Assumes nothing.
+use Prim.Native.Nat.{ℕ, suc, ◌+◌, ◌≤◌, ◌<◌}
+use mathlib.Core.List.{List, ◌∷◌, flat_map}
 use mathlib.Core.Path.{◌≡◌, sym, ap, ◌∙◌}
-use native.Mathlib.Omega.{arith}
 use native.Mathlib.Numerals.{add-one}
-use lib.ListN.{length, get_or, take, drop, drop_of_length-le}
+use lib.ListN.{length, drop, drop_of_length-le}
 use lib.Seq.{drop-cons}
-use Rattle.definitions.specs.Image.{procedures_of, procedure_at, no_procedure}
+use Rattle.definitions.specs.Image.{procedure_at, no_procedure}
 use Rattle.definitions.specs.Encoding.{procedure_words, procedures_words}
 use Rattle.definitions.specs.Compiling.{compiled_procedure, compiled_procedures}
-use Rattle.laws.specs.ImageIn.{procedures_in}
-use Rattle.tables.specs.Table.{place_in, body_in, Known}
-use Rattle.tables.specs.Looking.{Listed, procedure_in, body_place_lem, known_within, known_part, count_is}
+use Rattle.laws.specs.ImageIn.{image_in, procedures_in}
 use Rattle.writer.specs.Writing.{Output, writes}
 use Rattle.writer.specs.Laws.{writes_nil, writes_app}
-use Rattle.compiler.specs.Compile.{each_on}
+use Rattle.procedures.specs.Procedures.{procedure_for}
 
--- the type words of a procedure's variables, from behind its result's type word up to its body
-module _ (image table : List ℕ) (f : ℕ) (h : Listed image table f)
-    (p : ℕ) (hp : p ≡ place_in table f) (b : ℕ) (hb : b ≡ body_in table f) where
-  pub types_before : p + 1 + 1 ≤ b
-  types_before = let e = body_place_lem image table h.known f h.number in omega arith
-
-  pub types_within : b ≤ length image
-  types_within =
-      let e = body_place_lem image table h.known f h.number in let w = known_within image table h.known f h.number in omega arith
-
-  pub types_are : take (b - (p + 1 + 1)) (drop (p + 1 + 1) image) ≡ (procedure_in image f).types
-  types_are =
-      let e = body_place_lem image table h.known f h.number in
-      let n : b - (p + 1 + 1) ≡ length (procedure_in image f).types = omega arith in
-      ap (λ (z : ℕ). take (b - (p + 1 + 1)) (drop (z + 1 + 1) image)) hp ∙ known_part image table h.known f h.number (b - (p + 1 + 1)) n
-
--- ---- the procedures that are left
-
-pub next_listed : (image table : List ℕ) (f count : ℕ) → Known image table → count ≡ procedures_of (get_or image 0 0) → f < count → Listed image table f
-next_listed image table f count k e h = let c = count_is image table k in record { known = k; number = omega arith }
-
-module _ (image table : List ℕ) (k : Known image table) (arrays : List ℕ) (me o : ℕ) (out : List ℕ) (X : Output)
-    (u : each_on (procedures_in image) arrays (drop me (procedures_in image)) o out ≡ X)
-    (count : ℕ) (e : count ≡ procedures_of (get_or image 0 0)) where
-  pub each_done : count ≤ me → ◌≡◌ {A = Output} (o, out) X
-  unfolding flat_map each_on compiled_procedures procedures_words
+module _ (image : List ℕ) (me o : ℕ) (out : List ℕ) (X : Output)
+    (u : writes o out (procedures_words (compiled_procedures (procedures_in image) (image_in image).arrays (drop me (procedures_in image)))) ≡ X) where
+  pub each_done : length (procedures_in image) ≤ me → ◌≡◌ {A = Output} (o, out) X
+  unfolding flat_map compiled_procedures procedures_words
   each_done h =
-      let n = count_is image table k in
-      let z : drop me (procedures_in image) ≡ [] = drop_of_length-le (procedures_in image) {i = me} (omega arith) in
-      sym (writes_nil o out) ∙ sym (ap (λ l. each_on (procedures_in image) arrays l o out) z) ∙ u
+      sym (writes_nil o out)
+      ∙ sym (ap (λ l. writes o out (procedures_words (compiled_procedures (procedures_in image) (image_in image).arrays l)))
+      (drop_of_length-le (procedures_in image) {i = me} h)) ∙ u
 
-  pub each_more : me < count → (r : ℕ) (t1 : List ℕ)
-      → ◌≡◌ {A = Output} (r, t1) (writes o out (procedure_words (compiled_procedure (procedures_in image) arrays (procedure_at (procedures_in image) me))))
-      → each_on (procedures_in image) arrays (drop (me + 1) (procedures_in image)) r t1 ≡ X
-  unfolding flat_map each_on compiled_procedures procedures_words
-  each_more h r t1 g =
-      let n = count_is image table k in
+  pub each_more : me < length (procedures_in image) → (r : ℕ) (t : List ℕ)
+      → ◌≡◌ {A = Output} (r, t) (writes o out (procedure_words (procedure_for image me)))
+      → writes r t (procedures_words (compiled_procedures (procedures_in image) (image_in image).arrays (drop (me + 1) (procedures_in image)))) ≡ X
+  unfolding flat_map compiled_procedures procedures_words
+  each_more h r t g =
       let ps = procedures_in image in
-      let z : drop me ps ≡ procedure_at ps me ∷ drop (suc me) ps = drop-cons ps me no_procedure (omega arith) in
-      let P = compiled_procedure ps arrays (procedure_at ps me) in
-      let R = compiled_procedures ps arrays (drop (suc me) ps) in
-      ap (λ (j : ℕ). each_on ps arrays (drop j ps) r t1) (add-one me)
-      ∙ ap (λ (y : Output). each_on ps arrays (drop (suc me) ps) y.0 y.1) g
-      ∙ sym (writes_app (procedure_words P) (procedures_words R) o out)
-      ∙ sym (ap (λ l. each_on ps arrays l o out) z) ∙ u
+      let A = (image_in image).arrays in
+      let z : drop me ps ≡ procedure_at ps me ∷ drop (suc me) ps = drop-cons ps me no_procedure h in
+      let R = procedures_words (compiled_procedures ps A (drop (suc me) ps)) in
+      ap (λ (j : ℕ). writes r t (procedures_words (compiled_procedures ps A (drop j ps)))) (add-one me)
+      ∙ ap (λ (y : Output). writes y.0 y.1 R) g
+      ∙ sym (writes_app (procedure_words (compiled_procedure ps A (procedure_at ps me))) R o out)
+      ∙ sym (ap (λ l. writes o out (procedures_words (compiled_procedures ps A l))) z) ∙ u

@@ -1,19 +1,14 @@
--- What emitting procedures leaves: the place after them, and their words in the output. What compiling leaves: the
--- answer of `compiled`, and the words that were emitted before it was known. Assumes nothing.
+-- What compiling leaves: the answer of `compiled`, and the words that were emitted before it was known. Assumes nothing.
 use Rattle.std.specs.Prelude.{ℕ, Bool, List, eqb}
 use Rattle.definitions.specs.Choice.{pick}
 use Rattle.definitions.specs.declared.Compiled.{Compiled}
 use Rattle.definitions.specs.declared.Compiled.TheVariants.{Refused}
-use Rattle.definitions.specs.Image.{Procedure, Image}
+use Rattle.definitions.specs.Image.{Image}
 use Rattle.definitions.specs.Reading.{Parse, got, refused}
 use Rattle.definitions.specs.Checking.{admitted}
-use Rattle.definitions.specs.Encoding.{procedures_words, image_words}
-use Rattle.definitions.specs.Compiling.{compiled_procedures, compiled_image, written}
-use Rattle.writer.specs.Writing.{Output, writes}
-
--- some procedures
-unfoldable pub each_on : List Procedure → List ℕ → List Procedure → ℕ → List ℕ → Output
-each_on ps arrays rest o out = writes o out (procedures_words (compiled_procedures ps arrays rest))
+use Rattle.definitions.specs.Encoding.{image_words}
+use Rattle.definitions.specs.Compiling.{compiled_image, written}
+use Rattle.writer.specs.Writing.{writes}
 
 -- an image in source form: its words stand in the output as far as there is room, whatever the answer is
 unfoldable pub answer_on : Image → List ℕ → Compiled × List ℕ

@@ -2,23 +2,23 @@
 ghost use Rattle.std.specs.Prelude.{◌≡◌, true};
 ghost use Rattle.definitions.specs.Checking.{fault_of};
 ghost use Rattle.laws.specs.ImageIn.{image_in};
-ghost use Rattle.tables.specs.Table.{Known};
 ghost use Rattle.compiler.specs.Compile.{compiled_on};
 
 use super::compile_accepted;
 use definitions::{Checked, Compiled};
-use image_words::form;
+use reasons::Reason;
 use tables::SIZE;
+use tables::programs::Program;
 
 // An image that the checker accepted: "14 form 1 given", else the words and their refusals.
-fn compile_checked(image: &[u32], table: &[u32; SIZE], out: &mut [u32]) -> Compiled
-    requires { Known image.now table.now × ((fault_of (image_in image.now)).number ≡ 0) }
-    ensures { (result, out.new) ≡ compiled_on true image.now out.old }
+fn compile_checked(program: Program<'_>, out: &mut [u32]) -> Compiled
+    requires { (fault_of (image_in program.image.now)).number ≡ 0 }
+    ensures { (result, out.new) ≡ compiled_on true program.entry.image.now out.old }
 {
-    if form(image[0]) != 0 {
-        return Compiled::Refused(14, 0);
+    if program.form() != 0 {
+        return Compiled::Refused(Reason::NoSource.number(), 0);
     }
-    compile_accepted(image, table, out)
+    compile_accepted(program, out)
 }
 
 // Compiles an image of words into the lent array. The words are emitted once, before 15 and 16 are told: after these the array holds as many
@@ -30,6 +30,12 @@ pub fn compile(image: &[u32], whole: bool, out: &mut [u32]) -> Compiled
     let mut ends = [0u16; 0];
     match checker::check_with(image, whole, &mut table, &mut ends) {
         Checked::Refused(number, place) => Compiled::Refused(number, place),
-        Checked::Accepted => compile_checked(image, &table, out),
+        Checked::Accepted => {
+            let program = Program {
+                image,
+                table: &table,
+            };
+            compile_checked(program, out)
+        }
     }
 }

@@ -2,7 +2,7 @@
 use Prim.Native.Nat.{ℕ, ◌+◌, ◌-◌, ◌≤◌, ◌<◌}
 use mathlib.Core.Bool.{Bool, true, ◌||◌}
 use mathlib.Core.List.{List}
-use mathlib.Core.Path.{◌≡◌, sym, ap, ◌∙◌}
+use mathlib.Core.Path.{◌≡◌, refl, sym, ap, ◌∙◌}
 use native.Mathlib.Omega.{arith}
 use lib.ListN.{get_or}
 use Rattle.definitions.specs.Image.{payload_of, op_of, target_of, called_of, result_of, Expression, Statement, assign, store}
@@ -11,11 +11,12 @@ use Rattle.definitions.specs.Reading.{Parse, got, refused, read_expression, read
 use Rattle.definitions.specs.Labels.{rc_after, rc_after_block}
 use Rattle.laws.specs.Parses.{ok, ok_of, end_of, end_of_lem}
 use Rattle.laws.specs.StatementInversion.{open_assign, open_store, open_if, open_for, open_return, open_call}
-use Rattle.image_words.specs.Read.{BlockRead, arguments_at, statements_at}
-use Rattle.image_words.specs.Parts.{told}
-use Rattle.image_words.specs.StatementParts.{no_statement, first_statement, read_statements_lem, block_statements}
-use Rattle.image_words.specs.StatementParts.{read_then, read_else, read_bounds, read_body}
-use Rattle.image_words.specs.Skipping.{Row, skipped_expression, skipped_pair, skipped_two, skipped_arguments}
+use Rattle.image_words.specs.Read.{ExpressionRead, StatementRead, BlockRead, arguments_at, statements_at}
+use Rattle.image_words.specs.StatementParts.{op_there, no_statement, first_statement, read_statements_lem}
+use Rattle.image_words.specs.StatementParts.{read_assign, read_store, read_return, read_if, read_then, read_else, read_bounds, read_body}
+use Rattle.image_words.specs.Skipping.{Row, Skippable, skip_expression, skip_pair, skipped_expression, skipped_pair, skipped_two}
+use Rattle.image_words.specs.Skipping.{skipped_arguments}
+use Rattle.image_words.specs.Rest.{block_ready, block_begins, next_statement, call_skips}
 use Rattle.contexts.specs.Context.{passing, seen, passed, passed_block}
 use Rattle.contexts.specs.declared.Seen.{Seen}
 use Rattle.contexts.specs.declared.Passed.{Passed}
@@ -32,48 +33,76 @@ block_next types arrays pc rc (got s n) r e = ap (λ (z : Passed). z.next) e
 block_next types arrays pc rc (refused n p) r e = ap (λ (z : Passed). z.next) e
 
 -- what the calls ask
-module _ (l : ℕ) (params : List ℕ) (me : ℕ) (image : List ℕ) (at : ℕ) (t : ok (read_statement l params me image at) ≡ true)
-    (op : ℕ) (ho : op ≡ op_of (get_or image at 0)) where
-  pub for_fine : (v : ℕ) → op ≡ 3 → Row image 2 (at + 1) v → BlockRead (l - 1) params me image v
-  for_fine v k h = read_body l params me image at t op ho k v (skipped_pair (l - 1) image (at + 1) v (read_bounds l params me image at t op ho k) h)
+module _ (l : ℕ) (params : List ℕ) (me : ℕ) (image : List ℕ) (at : ℕ) (t : StatementRead l params me image at) where
+  pub assign_skips : op_of (get_or image at 0) ≡ 0 → Skippable image 1 (at + 1)
+  assign_skips k = skip_expression _ _ _ (read_assign l params me image at t.read _ refl k).read
+
+  pub store_skips : op_of (get_or image at 0) ≡ 1 → Skippable image 2 (at + 1)
+  store_skips k = skip_pair _ _ _ (read_store l params me image at t.read _ refl k)
+
+  pub bounds_skip : op_of (get_or image at 0) ≡ 3 → Skippable image 2 (at + 1)
+  bounds_skip k = skip_pair _ _ _ (read_bounds l params me image at t.read _ refl k)
+
+  pub return_skips : op_of (get_or image at 0) ≡ 4 → Skippable image 1 (at + 1)
+  return_skips k = skip_expression _ _ _ (read_return l params me image at t.read _ refl k).read
+
+  pub values_skip : op_of (get_or image at 0) ≡ 5 → (f c i : ℕ) → f ≡ called_of (get_or image at 0) → c ≡ get_or params f 0 → i ≡ c
+      → Skippable image i (at + 1)
+  values_skip k f c i hf hc hi = call_skips l params me image at t.read _ refl k f c i hf hc hi
+
+  pub condition_fine : op_of (get_or image at 0) ≡ 2 → ExpressionRead (l - 1) image (at + 1)
+  condition_fine k = read_if l params me image at t.read _ refl k
+
+  pub for_fine : (v : ℕ) → op_of (get_or image at 0) ≡ 3 → Row image 2 (at + 1) v → BlockRead (l - 1) params me image v
+  for_fine v k h =
+      read_body l params me image at t.read _ refl k v
+      (skipped_pair (l - 1) image (at + 1) v (read_bounds l params me image at t.read _ refl k) h)
+
+  module _ (k : op_of (get_or image at 0) ≡ 2) (types arrays : List ℕ) (c : Seen) (h : c ≡ seen types arrays (read_expression (l - 1) image (at + 1))) where
+    pub then_fine : BlockRead (l - 1) params me image c.next
+    then_fine = read_then l params me image at t.read _ refl k c.next (seen_next types arrays _ c h)
+
+    pub else_fine : (pc rc : Bool) (a : Passed) → a ≡ passed_block types arrays pc rc (read_block (l - 1) params me image c.next)
+        → BlockRead (l - 1) params me image a.next
+    else_fine pc rc a g =
+        read_else l params me image at t.read _ refl k c.next (seen_next types arrays _ c h) a.next (block_next types arrays pc rc _ a g)
 
 module _ (types arrays : List ℕ) (pc rc : Bool) (l : ℕ) (params : List ℕ) (me : ℕ) (image : List ℕ) (at : ℕ)
-    (t : ok (read_statement l params me image at) ≡ true)
-    (op : ℕ) (ho : op ≡ op_of (get_or image at 0)) where
-  pub pass_assign : (r : ℕ) → op ≡ 0 → Row image 1 (at + 1) r
+    (t : StatementRead l params me image at) where
+  pub pass_assign : (r : ℕ) → op_of (get_or image at 0) ≡ 0 → Row image 1 (at + 1) r
       → passing rc r ≡ passed types arrays pc rc (read_statement l params me image at)
   unfolding passed rc_after
-  pass_assign r k h = let (e, n, q, u) = open_assign l params me image at t (told ho k) in go e n q u
+  pass_assign r k h = let (e, n, q, u) = open_assign l params me image at t.read k in go e n q u
     where
       go : (e : Expression) (n : ℕ) → read_expression (l - 1) image (at + 1) ≡ got e n
           → read_statement l params me image at ≡ got (assign (target_of (get_or image at 0)) e) n
           → passing rc r ≡ passed types arrays pc rc (read_statement l params me image at)
       go e n q u = rw (u, skipped_expression (l - 1) image (at + 1) r (ok_of _ e n q) h ∙ end_of_lem _ e n q)
 
-  pub pass_store : (r : ℕ) → op ≡ 1 → Row image 2 (at + 1) r
+  pub pass_store : (r : ℕ) → op_of (get_or image at 0) ≡ 1 → Row image 2 (at + 1) r
       → passing rc r ≡ passed types arrays pc rc (read_statement l params me image at)
   unfolding passed rc_after
-  pass_store r k h = let (e, n, f, m, q, s, u) = open_store l params me image at t (told ho k) in go e n f m q s u
+  pass_store r k h = let (e, n, f, m, q, s, u) = open_store l params me image at t.read k in go e n f m q s u
     where
       go : (e : Expression) (n : ℕ) (f : Expression) (m : ℕ) → read_expression (l - 1) image (at + 1) ≡ got e n → read_expression (l - 1) image n ≡ got f m
           → read_statement l params me image at ≡ got (store (target_of (get_or image at 0)) e f) m
           → passing rc r ≡ passed types arrays pc rc (read_statement l params me image at)
       go e n f m q s u = rw (u, skipped_two (l - 1) image (at + 1) r e n f m q s h)
 
-  pub pass_return : (r : ℕ) → op ≡ 4 → Row image 1 (at + 1) r
+  pub pass_return : (r : ℕ) → op_of (get_or image at 0) ≡ 4 → Row image 1 (at + 1) r
       → passing (pc || rc) r ≡ passed types arrays pc rc (read_statement l params me image at)
   unfolding passed rc_after
-  pass_return r k h = let (e, n, q, u) = open_return l params me image at t (told ho k) in go e n q u
+  pass_return r k h = let (e, n, q, u) = open_return l params me image at t.read k in go e n q u
     where
       go : (e : Expression) (n : ℕ) → read_expression (l - 1) image (at + 1) ≡ got e n → read_statement l params me image at ≡ got (return e) n
           → passing (pc || rc) r ≡ passed types arrays pc rc (read_statement l params me image at)
       go e n q u = rw (u, skipped_expression (l - 1) image (at + 1) r (ok_of _ e n q) h ∙ end_of_lem _ e n q)
 
-  pub pass_for : (v : ℕ) (r : Passed) → op ≡ 3 → Row image 2 (at + 1) v
+  pub pass_for : (v : ℕ) (r : Passed) → op_of (get_or image at 0) ≡ 3 → Row image 2 (at + 1) v
       → r ≡ passed_block types arrays pc rc (read_block (l - 1) params me image v)
       → r ≡ passed types arrays pc rc (read_statement l params me image at)
   unfolding passed passed_block rc_after
-  pass_for v r k h g = let (e, n, f, m, b, o, q, s, u, w) = open_for l params me image at t (told ho k) in go e n f m b o q s u w
+  pass_for v r k h g = let (e, n, f, m, b, o, q, s, u, w) = open_for l params me image at t.read k in go e n f m b o q s u w
     where
       go : (e : Expression) (n : ℕ) (f : Expression) (m : ℕ) (b : Block) (o : ℕ) → read_expression (l - 1) image (at + 1) ≡ got e n
           → read_expression (l - 1) image n ≡ got f m → read_block (l - 1) params me image m ≡ got b o
@@ -81,10 +110,10 @@ module _ (types arrays : List ℕ) (pc rc : Bool) (l : ℕ) (params : List ℕ) 
           → r ≡ passed types arrays pc rc (read_statement l params me image at)
       go e n f m b o q s u w = rw (w, g, skipped_two (l - 1) image (at + 1) v e n f m q s h, u)
 
-  pub pass_call : (f c i n : ℕ) → op ≡ 5 → f ≡ called_of (get_or image at 0) → c ≡ get_or params f 0 → i ≡ c → Row image i (at + 1) n
+  pub pass_call : (f c i n : ℕ) → op_of (get_or image at 0) ≡ 5 → f ≡ called_of (get_or image at 0) → c ≡ get_or params f 0 → i ≡ c → Row image i (at + 1) n
       → passing rc n ≡ passed types arrays pc rc (read_statement l params me image at)
   unfolding passed rc_after arguments_at
-  pass_call f c i n k hf hc hi h = let (es, m, b, q, u) = open_call l params me image at t (told ho k) in go es m q u (hi ∙ hc ∙ ap (λ (z : ℕ). get_or params z 0) hf)
+  pass_call f c i n k hf hc hi h = let (es, m, b, q, u) = open_call l params me image at t.read k in go es m q u (hi ∙ hc ∙ ap (λ (z : ℕ). get_or params z 0) hf)
     where
       go : (es : List Expression) (m : ℕ)
           → read_arguments (get_or params (called_of (get_or image at 0)) 0) (λ a. read_expression (l - 1) image a) (at + 1) ≡ got es m
@@ -94,20 +123,12 @@ module _ (types arrays : List ℕ) (pc rc : Bool) (l : ℕ) (params : List ℕ) 
       go es m q u e =
           rw (u, skipped_arguments (get_or params (called_of (get_or image at 0)) 0) (l - 1) image (at + 1) n (ok_of _ es m q) (rw e at h) ∙ end_of_lem _ es m q)
 
-  module _ (k : op ≡ 2) (c : Seen) (h : c ≡ seen types arrays (read_expression (l - 1) image (at + 1))) where
-    pub then_fine : BlockRead (l - 1) params me image c.next
-    then_fine = read_then l params me image at t op ho k c.next (seen_next types arrays _ c h)
-
-    module _ (p : Bool) (a : Passed) (g : a ≡ passed_block types arrays p rc (read_block (l - 1) params me image c.next)) where
-      pub else_fine : BlockRead (l - 1) params me image a.next
-      else_fine =
-          read_else l params me image at t op ho k c.next (seen_next types arrays _ c h) a.next (block_next types arrays p rc _ a g)
-
+  module _ (k : op_of (get_or image at 0) ≡ 2) (c : Seen) (h : c ≡ seen types arrays (read_expression (l - 1) image (at + 1))) where
     pub pass_if : (a b : Passed) → a ≡ passed_block types arrays (pc || c.secret) rc (read_block (l - 1) params me image c.next)
         → b ≡ passed_block types arrays (pc || c.secret) rc (read_block (l - 1) params me image a.next)
         → passing (a.rc || b.rc) b.next ≡ passed types arrays pc rc (read_statement l params me image at)
     unfolding passed passed_block rc_after seen
-    pass_if a b g f = let (d, n, x, m, y, o, q, s, u, w) = open_if l params me image at t (told ho k) in go d n x m y o q s u w
+    pass_if a b g f = let (d, n, x, m, y, o, q, s, u, w) = open_if l params me image at t.read k in go d n x m y o q s u w
       where
         go : (d : Expression) (n : ℕ) (x : Block) (m : ℕ) (y : Block) (o : ℕ) → read_expression (l - 1) image (at + 1) ≡ got d n
             → read_block (l - 1) params me image n ≡ got x m → read_block (l - 1) params me image m ≡ got y o
@@ -116,10 +137,9 @@ module _ (types arrays : List ℕ) (pc rc : Bool) (l : ℕ) (params : List ℕ) 
         go d n x m y o q s u w = rw (w, f, g, h, q, s, u)
 
 module _ (types arrays : List ℕ) (pc : Bool) (l : ℕ) (params : List ℕ) (me : ℕ) (image : List ℕ) where
-  module _ (rc : Bool) (at : ℕ) (t : ok (read_block l params me image at) ≡ true) where
-    pub block_begin : (n : ℕ) → n ≡ payload_of (get_or image at 0)
-        → passed_block types arrays pc rc (statements_at (n - 0) (l - 1) params me image (at + 1)) ≡ passed_block types arrays pc rc (read_block l params me image at)
-    block_begin n h = let e : n - 0 ≡ payload_of (get_or image at 0) = omega arith in rw (e, (block_statements l params me image at t).1)
+  pub block_begin : (rc : Bool) (at n : ℕ) → BlockRead l params me image at → n ≡ payload_of (get_or image at 0)
+      → passed_block types arrays pc rc (statements_at (n - 0) (l - 1) params me image (at + 1)) ≡ passed_block types arrays pc rc (read_block l params me image at)
+  block_begin rc at n t h = rw (block_begins l params me image at t.read n h)
 
   module _ (n at j : ℕ) (rc : Bool) where
     pub block_done : (X : Passed) → passed_block types arrays pc rc (statements_at (n - j) l params me image at) ≡ X → n ≤ j → passing rc at ≡ X
@@ -147,3 +167,11 @@ module _ (types arrays : List ℕ) (pc : Bool) (l : ℕ) (params : List ℕ) (me
             go d m b o q r v =
                 let z : n - (j + 1) ≡ n - j - 1 = omega arith in
                 rw (z, g, q, r) (sym (ap (λ k. passed_block types arrays pc rc k) v) ∙ u)
+
+pub ruleset skips = (op_there, assign_skips, store_skips, bounds_skip, return_skips, values_skip)
+
+pub ruleset fine = (condition_fine, for_fine, then_fine, else_fine, block_ready, next_statement)
+
+pub ruleset passes = (pass_assign, pass_store, pass_return, pass_for, pass_call, pass_if)
+
+pub ruleset statements = (block_begin, block_done, block_again, block_more)

@@ -9,10 +9,37 @@ ghost use Rattle.image_words.specs.Read.{ExpressionRead, PairRead, StatementRead
 ghost use Rattle.tables.specs.Table.{arrays_in, params_in};
 ghost use Rattle.contexts.specs.Context.{seen, seen_two, passed, passed_block};
 
+use image_words::kinds::Kind;
 use image_words::lists::{element, wide};
+use image_words::ops::Op;
 use image_words::skipping::skip;
-use image_words::{array_secret, kind, kinds, op, ops, payload, type_secret};
-use tables::SIZE;
+use image_words::{called, kinds, ops, payload, type_secret};
+use tables::Table;
+use tables::programs::Procedure;
+
+// The words that a procedure's body is read by: its image with the table, the type words of its variables, its number. Not a Procedure, which
+// asks that its image was read: secret_expression and rc_block may not ask more than that their part was.
+#[derive(Clone, Copy)]
+pub struct Body<'a> {
+    pub image: &'a [u32],
+    pub table: &'a Table,
+    pub types: &'a [u32],
+    pub me: u32,
+}
+
+impl<'a> Body<'a> {
+    pub fn of(procedure: Procedure<'a>) -> Body<'a>
+        ensures { (result.image.now ≡ procedure.entry.program.image.now) × (result.table.now ≡ procedure.entry.program.table.now)
+            × (result.types.now ≡ procedure.entry.types.now) × (result.me ≡ procedure.entry.me) }
+    {
+        Body {
+            image: procedure.program.image,
+            table: procedure.program.table,
+            types: procedure.types,
+            me: procedure.me,
+        }
+    }
+}
 
 // Whether pc is secret, and rc.
 #[derive(Clone, Copy)]
@@ -43,167 +70,121 @@ pub fn secret_variable(types: &[u32], x: u32) -> bool
 }
 
 // Whether an array is secret.
-pub fn secret_array(table: &[u32; SIZE], a: u32) -> bool
+pub fn secret_array(table: &Table, a: u32) -> bool
     ensures { result ≡ array_secret (get_or (arrays_in table.now) a 0) }
 {
-    array_secret(tables::array(table, a))
+    image_words::array_secret(tables::array(table, a))
 }
 
 // Whether the expression at a place is secret.
 #[cycle(expressions)]
-pub fn secret_expression(
-    image: &[u32],
-    table: &[u32; SIZE],
-    types: &[u32],
-    at: usize,
-    level: u32,
-) -> Seen
-    requires { ExpressionRead level image.now at }
-    ensures { result ≡ seen types.now (arrays_in table.now) (read_expression level image.now at) }
+#[tactic(auto, using(crate::proofs::Sight::seeing, crate::proofs::Sight::sights))]
+pub fn secret_expression(body: Body<'_>, at: usize, level: u32) -> Seen
+    requires { ExpressionRead level body.image.now at }
+    ensures { result ≡ seen body.entry.types.now (arrays_in body.entry.table.now) (read_expression level body.entry.image.now at) }
 {
-    let w = image[at];
-    let k = kind(w);
-    if k == kinds::CONSTANT {
-        return Seen {
+    let w = body.image[at];
+    match kinds::of(w) {
+        Kind::Constant | Kind::Boolean => Seen {
             secret: false,
             next: at + 1,
-        };
-    }
-    if k == kinds::RAW_CONSTANT {
-        return Seen {
+        },
+        Kind::RawConstant => Seen {
             secret: false,
             next: at + 1 + 1,
-        };
-    }
-    if k == kinds::BOOLEAN {
-        return Seen {
-            secret: false,
+        },
+        Kind::Variable => Seen {
+            secret: secret_variable(body.types, payload(w)),
             next: at + 1,
-        };
-    }
-    if k == kinds::VARIABLE {
-        let s = secret_variable(types, payload(w));
-        return Seen {
-            secret: s,
-            next: at + 1,
-        };
-    }
-    if k == kinds::CELL {
-        let s = secret_array(table, payload(w));
-        let i = secret_expression(image, table, types, at + 1, level - 1);
-        return Seen {
-            secret: s | i.secret,
-            next: i.next,
-        };
-    }
-    if k == kinds::UNARY {
-        return secret_expression(image, table, types, at + 1, level - 1);
-    }
-    if k == kinds::BINARY {
-        return secret_two(image, table, types, at + 1, level - 1);
-    }
-    let c = secret_expression(image, table, types, at + 1, level - 1);
-    let n = c.next;
-    let v = secret_two(image, table, types, n, level - 1);
-    Seen {
-        secret: c.secret | v.secret,
-        next: v.next,
+        },
+        Kind::Cell => {
+            let i = secret_expression(body, at + 1, level - 1);
+            Seen {
+                secret: secret_array(body.table, payload(w)) | i.secret,
+                next: i.next,
+            }
+        }
+        Kind::Unary => secret_expression(body, at + 1, level - 1),
+        Kind::Binary => secret_two(body, at + 1, level - 1),
+        Kind::Select => {
+            let c = secret_expression(body, at + 1, level - 1);
+            let v = secret_two(body, c.next, level - 1);
+            Seen {
+                secret: c.secret | v.secret,
+                next: v.next,
+            }
+        }
     }
 }
 
 // Whether one of two expressions, one behind the other, is secret.
 #[cycle(expressions)]
-fn secret_two(image: &[u32], table: &[u32; SIZE], types: &[u32], at: usize, level: u32) -> Seen
-    requires { PairRead level image.now at }
-    ensures { result ≡ seen_two types.now (arrays_in table.now) (read_expression level image.now at)
-        (read_expression level image.now (end_of (read_expression level image.now at))) }
+#[tactic(auto, using(crate::proofs::Sight::seeing, crate::proofs::Sight::sights))]
+fn secret_two(body: Body<'_>, at: usize, level: u32) -> Seen
+    requires { PairRead level body.image.now at }
+    ensures { result ≡ seen_two body.entry.types.now (arrays_in body.entry.table.now) (read_expression level body.entry.image.now at)
+        (read_expression level body.entry.image.now (end_of (read_expression level body.entry.image.now at))) }
 {
-    let e = secret_expression(image, table, types, at, level);
-    let n = e.next;
-    let f = secret_expression(image, table, types, n, level);
+    let e = secret_expression(body, at, level);
+    let f = secret_expression(body, e.next, level);
     Seen {
         secret: e.secret | f.secret,
         next: f.next,
     }
 }
 
-// The rc after the statement at a place, in the body of procedure `me`.
+// The rc after the statement at a place.
 #[cycle(blocks)]
-pub fn rc_statement(
-    image: &[u32],
-    table: &[u32; SIZE],
-    types: &[u32],
-    me: u32,
-    context: Context,
-    at: usize,
-    level: u32,
-) -> Passed
-    requires { StatementRead level (params_in table.now) me image.now at }
-    ensures { result ≡ passed types.now (arrays_in table.now) context.pc context.rc
-        (read_statement level (params_in table.now) me image.now at) }
+#[tactic(auto, using(crate::proofs::Passing::skips, crate::proofs::Passing::fine, crate::proofs::Passing::passes, crate::proofs::Passing::statements))]
+pub fn rc_statement(body: Body<'_>, context: Context, at: usize, level: u32) -> Passed
+    requires { StatementRead level (params_in body.table.now) body.me body.image.now at }
+    ensures { result ≡ passed body.entry.types.now (arrays_in body.entry.table.now) context.pc context.rc
+        (read_statement level (params_in body.entry.table.now) body.entry.me body.entry.image.now at) }
 {
-    let w = image[at];
-    let o = op(w);
-    if o == ops::ASSIGN {
-        let next = skip(image, at + 1, 1);
-        return Passed {
+    let w = body.image[at];
+    match ops::of(w) {
+        Op::Assign => Passed {
             rc: context.rc,
-            next,
-        };
-    }
-    if o == ops::STORE {
-        let next = skip(image, at + 1, 2);
-        return Passed {
+            next: skip(body.image, at + 1, 1),
+        },
+        Op::Store => Passed {
             rc: context.rc,
-            next,
-        };
-    }
-    if o == ops::IF {
-        return rc_if(image, table, types, me, context, at, level);
-    }
-    if o == ops::FOR {
-        let body = skip(image, at + 1, 2);
-        return rc_block(image, table, types, me, context, body, level - 1);
-    }
-    if o == ops::RETURN {
-        let next = skip(image, at + 1, 1);
-        return Passed {
+            next: skip(body.image, at + 1, 2),
+        },
+        Op::If => rc_if(body, context, at, level),
+        Op::For => {
+            let inside = skip(body.image, at + 1, 2);
+            rc_block(body, context, inside, level - 1)
+        }
+        Op::Return => Passed {
             rc: context.pc | context.rc,
-            next,
-        };
-    }
-    let n = tables::parameters(table, image_words::called(w));
-    let next = skip(image, at + 1, wide(n));
-    Passed {
-        rc: context.rc,
-        next,
+            next: skip(body.image, at + 1, 1),
+        },
+        Op::Call => {
+            let n = tables::parameters(body.table, called(w));
+            Passed {
+                rc: context.rc,
+                next: skip(body.image, at + 1, wide(n)),
+            }
+        }
     }
 }
 
 // An if: both arms begin with the rc before it, and pc is secret in them if the condition is.
 #[cycle(blocks)]
-fn rc_if(
-    image: &[u32],
-    table: &[u32; SIZE],
-    types: &[u32],
-    me: u32,
-    context: Context,
-    at: usize,
-    level: u32,
-) -> Passed
-    requires { StatementRead level (params_in table.now) me image.now at × (op_of (get_or image.now at 0) ≡ 2) }
-    ensures { result ≡ passed types.now (arrays_in table.now) context.pc context.rc
-        (read_statement level (params_in table.now) me image.now at) }
+#[tactic(auto, using(crate::proofs::Passing::skips, crate::proofs::Passing::fine, crate::proofs::Passing::passes, crate::proofs::Passing::statements))]
+fn rc_if(body: Body<'_>, context: Context, at: usize, level: u32) -> Passed
+    requires { StatementRead level (params_in body.table.now) body.me body.image.now at × (op_of (get_or body.image.now at 0) ≡ 2) }
+    ensures { result ≡ passed body.entry.types.now (arrays_in body.entry.table.now) context.pc context.rc
+        (read_statement level (params_in body.entry.table.now) body.entry.me body.entry.image.now at) }
 {
-    let c = secret_expression(image, table, types, at + 1, level - 1);
-    let n = c.next;
+    let c = secret_expression(body, at + 1, level - 1);
     let arm = Context {
         pc: context.pc | c.secret,
         rc: context.rc,
     };
-    let a = rc_block(image, table, types, me, arm, n, level - 1);
-    let m = a.next;
-    let b = rc_block(image, table, types, me, arm, m, level - 1);
+    let a = rc_block(body, arm, c.next, level - 1);
+    let b = rc_block(body, arm, a.next, level - 1);
     Passed {
         rc: a.rc | b.rc,
         next: b.next,
@@ -212,32 +193,23 @@ fn rc_if(
 
 // The rc after the block at a place.
 #[cycle(blocks)]
-pub fn rc_block(
-    image: &[u32],
-    table: &[u32; SIZE],
-    types: &[u32],
-    me: u32,
-    context: Context,
-    at: usize,
-    level: u32,
-) -> Passed
-    requires { BlockRead level (params_in table.now) me image.now at }
-    ensures { result ≡ passed_block types.now (arrays_in table.now) context.pc context.rc
-        (read_block level (params_in table.now) me image.now at) }
+#[tactic(auto, using(crate::proofs::Passing::skips, crate::proofs::Passing::fine, crate::proofs::Passing::passes, crate::proofs::Passing::statements))]
+pub fn rc_block(body: Body<'_>, context: Context, at: usize, level: u32) -> Passed
+    requires { BlockRead level (params_in body.table.now) body.me body.image.now at }
+    ensures { result ≡ passed_block body.entry.types.now (arrays_in body.entry.table.now) context.pc context.rc
+        (read_block level (params_in body.entry.table.now) body.entry.me body.entry.image.now at) }
 {
-    let count = payload(image[at]);
-    let mut j = 0;
-    let mut a = at + 1;
+    let count = payload(body.image[at]);
     let mut r = context.rc;
-    while j < count {
+    let mut a = at + 1;
+    for _ in 0..count {
         let now = Context {
             pc: context.pc,
             rc: r,
         };
-        let s = rc_statement(image, table, types, me, now, a, level - 1);
-        a = s.next;
+        let s = rc_statement(body, now, a, level - 1);
         r = s.rc;
-        j += 1;
+        a = s.next;
     }
     Passed { rc: r, next: a }
 }

@@ -9,16 +9,15 @@ use Rattle.laws.specs.Parses.{end_of}
 use Rattle.writer.specs.Writing.{Output, write, writes}
 use Rattle.writer.specs.Laws.{writes_on, writes_app}
 use Rattle.copying.specs.Copy.{Copied, spot, copied, copied_two, copied_arguments}
-use Rattle.copying.specs.declared.Spot.{Spot}
 
-pub copied_at : (first o : ℕ) (out : List ℕ) (x : Parse Expression) → (copied first o out x).0.at ≡ end_of x
+pub copied_at : (first o : ℕ) (out : List ℕ) (x : Parse Expression) → (copied first o out x).0 ≡ end_of x
 unfolding copied end_of
 copied_at first o out (got e n) = refl
 copied_at first o out (refused n p) = refl
 
-pub copied_end : (first o : ℕ) (out : List ℕ) (x : Parse Expression) (r : Spot) (t : List ℕ) → ◌≡◌ {A = Copied} (r, t) (copied first o out x)
-    → r.at ≡ end_of x
-copied_end first o out x r t e = ap (λ (z : Copied). z.0.at) e ∙ copied_at first o out x
+pub copied_end : (first o : ℕ) (out : List ℕ) (x : Parse Expression) (r p : ℕ) (t : List ℕ) → ◌≡◌ {A = Copied} (r, (p, t)) (copied first o out x)
+    → r ≡ end_of x
+copied_end first o out x r p t e = ap (λ (z : Copied). z.0) e ∙ copied_at first o out x
 
 pub copied_got : (first o : ℕ) (out : List ℕ) (x : Parse Expression) (e : Expression) (n : ℕ) → x ≡ got e n
     → copied first o out x ≡ spot n (writes o out (expression_words (moved first e)))

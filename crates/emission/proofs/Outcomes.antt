@@ -9,12 +9,11 @@ use Rattle.definitions.specs.Encoding.{statement_count}
 use Rattle.definitions.specs.Compiling.{compiled_return, compiled_call}
 use Rattle.writer.specs.Writing.{Output}
 use Rattle.copying.specs.Copy.{Copied, spot}
-use Rattle.copying.specs.declared.Spot.{Spot}
 use Rattle.emission.specs.Emitted.{Emission, outcome}
 
-pub spot_outcome : (v : Spot) (t : List ℕ) (m : ℕ) (z : Output) (n : ℕ) (rc : Bool) → ◌≡◌ {A = Copied} (v, t) (spot m z)
-    → ◌≡◌ {A = Emission} (record { at = v.at; o = v.o; n = n; rc = rc }, t) (outcome m n rc z)
-spot_outcome v t m z n rc e = ap (λ (y : Copied). outcome y.0.at n rc (y.0.o, y.1)) e
+pub spot_outcome : (v p : ℕ) (t : List ℕ) (m : ℕ) (z : Output) (n : ℕ) (rc : Bool) → ◌≡◌ {A = Copied} (v, (p, t)) (spot m z)
+    → ◌≡◌ {A = Emission} (record { at = v; n = n; rc = rc }, (p, t)) (outcome m n rc z)
+spot_outcome v p t m z n rc e = ap (λ (y : Copied). outcome y.0 n rc y.1) e
 
 pub outcome_eq : (m n n2 : ℕ) (rc : Bool) (y z : Output) → n ≡ n2 → y ≡ z → outcome m n rc y ≡ outcome m n2 rc z
 outcome_eq m n n2 rc y z a b = rw (a, b)

@@ -4,125 +4,95 @@ use mathlib.Core.List.{List}
 use Prim.Native.Nat.{ℕ, ◌+◌, ◌≤◌, ◌<◌}
 use native.Mathlib.Omega.{arith}
 use borrow.Author.Tests.{lt-ltb, le-ltb, ne_eqb}
-use lib.Dec.{eqb}
 use lib.ListN.{get_or, length-take}
-use Rattle.definitions.specs.Choice.{pick}
 use Rattle.definitions.specs.Image.{array_length}
 use Rattle.definitions.specs.Operators.{apply_binary}
-use Rattle.definitions.specs.Running.{emit, divided, shifted, operated}
+use Rattle.definitions.specs.Running.{Evaluated, value, stop, emit, divided, shifted, operated}
 use Rattle.laws.specs.OperatorTests.{shift_no_division, shift_between, division_between, neither_outside}
-use Rattle.tables.specs.Table.{array_count_in, arrays_in, base_in}
-use Rattle.tracing.specs.declared.Value.{Value}
-use Rattle.tracing.specs.declared.Value.TheVariants.{Got, Stop}
-use Rattle.tracing.specs.Log.{Log, log, byte_trace}
-use Rattle.tracing.specs.Answers.{evaluation, until}
+use Rattle.tables.specs.Table.{array_count_in, arrays_in, base_in, Known}
+use Rattle.tracing.specs.Log.{Log, byte_trace}
 use Rattle.evaluator.specs.Cells.{Bases, numbered, cell_read}
-use Rattle.evaluator.specs.CellLaws.{array_there}
-use Rattle.evaluator.specs.Results.{until_got, until_stop}
+use Rattle.evaluator.specs.CellLaws.{array_there, known_bases}
 
-module _ (table slice : List ℕ) (used a l v n : ℕ) (r : Value) (slice1 : List ℕ)
-    (d : evaluation r slice1 ≡ until n (emit byte_trace 4 l v (log used slice))) where
-  pub index_full : (k q u : ℕ) → r ≡ Stop k q u → evaluation r slice1 ≡ until n (numbered table a l v (log used slice))
-  unfolding numbered evaluation until
-  index_full k q u s = rw (s, until_stop r slice1 n (emit byte_trace 4 l v (log used slice)) k q u d s)
+module _ (table : List ℕ) (t t1 : Log) (a l v : ℕ) where
+  pub index_full : (k q : ℕ) → stop k q t1 ≡ emit byte_trace 4 l v t → stop k q t1 ≡ numbered table a l v t
+  unfolding numbered
+  index_full k q d = rw (← d)
 
-  module _ (i m u : ℕ) (s : r ≡ Got i m u) (w k : ℕ) (hw : w ≡ get_or (arrays_in table) a 0) (hk : k ≡ array_length w) where
+  module _ (i : ℕ) (d : value i t1 ≡ emit byte_trace 4 l v t) (w k : ℕ) (hw : w ≡ get_or (arrays_in table) a 0) (hk : k ≡ array_length w) where
     length_is : k ≡ array_length (get_or (arrays_in table) a 0)
     length_is = hk ∙ ap array_length hw
 
-    -- the cell's number fits a word
-    pub index_fits : Bases table → i < k → (b : ℕ) → b ≡ base_in table a → k < 65536 → b + i ≤ 66559
-    unfolding Bases
-    index_fits h q b hb z =
-        let e = length_is in
-        let c = length-take (array_count_in table) table in
-        let t = array_there (arrays_in table) a i (omega arith) in
-        let y = h a (omega arith) in omega arith
+    pub index_in : (b : ℕ) → b ≡ base_in table a → i < k → value (b + i) t1 ≡ numbered table a l v t
+    unfolding numbered
+    index_in b hb h = rw (← d, ← length_is, lt-ltb i k h, hb)
 
-    pub index_in : (b : ℕ) → b ≡ base_in table a → i < k → evaluation (Got (b + i) m u) slice1 ≡ until n (numbered table a l v (log used slice))
-    unfolding numbered evaluation until
-    index_in b hb h =
-        let (y, z) = until_got r slice1 n (emit byte_trace 4 l v (log used slice)) i m u d s in rw (y, z, ← length_is, lt-ltb i k h, hb)
+    pub index_out : k ≤ i → ◌≡◌ {A = Evaluated Log ℕ} (stop 23 l t1) (numbered table a l v t)
+    unfolding numbered
+    index_out h = rw (← d, ← length_is, le-ltb i k h)
 
-    pub index_out : k ≤ i → evaluation (Stop 23 l u) slice1 ≡ until n (numbered table a l v (log used slice))
-    unfolding numbered evaluation until
-    index_out h = let (y, z) = until_got r slice1 n (emit byte_trace 4 l v (log used slice)) i m u d s in rw (y, z, ← length_is, le-ltb i k h)
+  -- what stands in the cell that an index names
+  pub cell_stop : (cells : List ℕ) (k q : ℕ) → stop k q t1 ≡ numbered table a l v t → stop k q t1 ≡ cell_read table cells a l v t
+  unfolding cell_read
+  cell_stop cells k q d = rw (← d)
 
-module _ (table cells slice : List ℕ) (used a l v n : ℕ) (r : Value) (slice1 : List ℕ)
-    (d : evaluation r slice1 ≡ until n (numbered table a l v (log used slice))) where
-  pub cell_stop : (k q u : ℕ) → r ≡ Stop k q u → evaluation r slice1 ≡ until n (cell_read table cells a l v (log used slice))
-  unfolding cell_read evaluation until
-  cell_stop k q u s = rw (s, until_stop r slice1 n (numbered table a l v (log used slice)) k q u d s)
+  pub cell_got : (cells : List ℕ) (i k x : ℕ) → value i t1 ≡ numbered table a l v t → x ≡ get_or cells k 0 → k ≡ i → value x t1 ≡ cell_read table cells a l v t
+  unfolding cell_read
+  cell_got cells i k x d e h = rw (← d, e, h)
 
-  pub cell_got : (i m u k x : ℕ) → r ≡ Got i m u → k ≡ i → x ≡ get_or cells k 0 → evaluation (Got x m u) slice1 ≡ until n (cell_read table cells a l v (log used slice))
-  unfolding cell_read evaluation until
-  cell_got i m u k x s h e = let (y, z) = until_got r slice1 n (numbered table a l v (log used slice)) i m u d s in rw (y, z, e, h)
+-- the cell's number fits a word
+pub index_fits : (table : List ℕ) (a i k w b : ℕ) → Bases table → w ≡ get_or (arrays_in table) a 0 → k ≡ array_length w → i < k
+    → b ≡ base_in table a → k < 65536 → b + i ≤ 66559
+unfolding Bases
+index_fits table a i k w b bases hw hk q hb z =
+    let e : k ≡ array_length (get_or (arrays_in table) a 0) = hk ∙ ap array_length hw in
+    let c = length-take (array_count_in table) table in
+    let t = array_there (arrays_in table) a i (omega arith) in
+    let y = bases a (omega arith) in omega arith
 
-pub ruleset cell·rules = (cell_stop, cell_got)
+module _ (t t1 : Log) (p o a b : ℕ) where
+  pub divide_full : (k q : ℕ) → stop k q t1 ≡ emit byte_trace 5 p a t → stop k q t1 ≡ divided byte_trace p o a b t
+  unfolding divided
+  divide_full k q d = rw (← d)
 
-module _ (slice : List ℕ) (used p o a b n : ℕ) (r : Value) (slice1 : List ℕ)
-    (d : evaluation r slice1 ≡ until n (emit byte_trace 5 p a (log used slice))) where
-  pub divide_full : (k q u : ℕ) → r ≡ Stop k q u → evaluation r slice1 ≡ until n (divided byte_trace p o a b (log used slice))
-  unfolding divided evaluation until
-  divide_full k q u s = rw (s, until_stop r slice1 n (emit byte_trace 5 p a (log used slice)) k q u d s)
+  module _ (i : ℕ) (d : value i t1 ≡ emit byte_trace 5 p a t) (t2 : Log) where
+    pub divide_full2 : (k q : ℕ) → stop k q t2 ≡ emit byte_trace 6 p b t1 → stop k q t2 ≡ divided byte_trace p o a b t
+    unfolding divided
+    divide_full2 k q e = rw (← d, ← e)
 
-  module _ (i m u : ℕ) (s : r ≡ Got i m u) (r2 : Value) (slice2 : List ℕ)
-      (d2 : evaluation r2 slice2 ≡ until m (emit byte_trace 6 p b (log u slice1))) where
-    pub divide_full2 : (k q u2 : ℕ) → r2 ≡ Stop k q u2 → evaluation r2 slice2 ≡ until n (divided byte_trace p o a b (log used slice))
-    unfolding divided evaluation until
-    divide_full2 k q u2 s2 =
-        let (y, z) = until_got r slice1 n (emit byte_trace 5 p a (log used slice)) i m u d s in rw (s2, y, until_stop r2 slice2 m (emit byte_trace 6 p b (log u slice1)) k q u2 d2 s2)
+    module _ (j : ℕ) (e : value j t2 ≡ emit byte_trace 6 p b t1) where
+      pub divide_zero : b ≡ 0 → ◌≡◌ {A = Evaluated Log ℕ} (stop 24 p t2) (divided byte_trace p o a b t)
+      unfolding divided
+      divide_zero h = rw (← d, ← e, h)
 
-    module _ (j m2 u2 : ℕ) (s2 : r2 ≡ Got j m2 u2) where
-      pub divide_zero : b ≡ 0 → evaluation (Stop 24 p u2) slice2 ≡ until n (divided byte_trace p o a b (log used slice))
-      unfolding divided evaluation until
-      divide_zero h =
-          let (y, z) = until_got r slice1 n (emit byte_trace 5 p a (log used slice)) i m u d s in
-          let (y2, z2) = until_got r2 slice2 m (emit byte_trace 6 p b (log u slice1)) j m2 u2 d2 s2 in rw (y, y2, h)
+      pub divide_done : (x : ℕ) → (b ≡ 0 → ⊥) → x ≡ apply_binary o a b → value x t2 ≡ divided byte_trace p o a b t
+      unfolding divided
+      divide_done x h f = rw (← d, ← e, ne_eqb b 0 h, f)
 
-      pub divide_done : (x : ℕ) → (b ≡ 0 → ⊥) → x ≡ apply_binary o a b → evaluation (Got x m2 u2) slice2 ≡ until n (divided byte_trace p o a b (log used slice))
-      unfolding divided evaluation until
-      divide_done x h e =
-          let (y, z) = until_got r slice1 n (emit byte_trace 5 p a (log used slice)) i m u d s in
-          let (y2, z2) = until_got r2 slice2 m (emit byte_trace 6 p b (log u slice1)) j m2 u2 d2 s2 in rw (y, y2, ne_eqb b 0 h, z, z2, e)
+  pub shift_full : (k q : ℕ) → stop k q t1 ≡ emit byte_trace 9 p b t → stop k q t1 ≡ shifted byte_trace p o a b t
+  unfolding shifted
+  shift_full k q d = rw (← d)
 
-pub ruleset divide·rules = (divide_full, divide_full2, divide_zero, divide_done)
+  pub shift_done : (i x : ℕ) → value i t1 ≡ emit byte_trace 9 p b t → x ≡ apply_binary o a b → value x t1 ≡ shifted byte_trace p o a b t
+  unfolding shifted
+  shift_done i x d e = rw (← d, e)
 
-module _ (slice : List ℕ) (used p o a b n : ℕ) (r : Value) (slice1 : List ℕ)
-    (d : evaluation r slice1 ≡ until n (emit byte_trace 9 p b (log used slice))) where
-  pub shift_full : (k q u : ℕ) → r ≡ Stop k q u → evaluation r slice1 ≡ until n (shifted byte_trace p o a b (log used slice))
-  unfolding shifted evaluation until
-  shift_full k q u s = rw (s, until_stop r slice1 n (emit byte_trace 9 p b (log used slice)) k q u d s)
+module _ (p o a b : ℕ) (t : Log) where
+  pub operate_shift : (y : Evaluated Log ℕ) → 6 ≤ o → o < 9 → y ≡ shifted byte_trace p o a b t → y ≡ operated byte_trace p o a b t
+  unfolding operated
+  operate_shift y h g e = let s = shift_between o h g in rw (shift_no_division o s, s) e
 
-  pub shift_done : (i m u x : ℕ) → r ≡ Got i m u → x ≡ apply_binary o a b → evaluation (Got x m u) slice1 ≡ until n (shifted byte_trace p o a b (log used slice))
-  unfolding shifted evaluation until
-  shift_done i m u x s e = let (y, z) = until_got r slice1 n (emit byte_trace 9 p b (log used slice)) i m u d s in rw (y, z, e)
+  pub operate_divide : (y : Evaluated Log ℕ) → 9 ≤ o → o < 11 → y ≡ divided byte_trace p o a b t → y ≡ operated byte_trace p o a b t
+  unfolding operated
+  operate_divide y h g e = rw (division_between o h g) e
 
-module _ (p o a b n : ℕ) where
-  module _ (t : Log) (r : Value) (slice : List ℕ) where
-    pub operate_shift : 6 ≤ o → o < 9 → evaluation r slice ≡ until n (shifted byte_trace p o a b t) → evaluation r slice ≡ until n (operated byte_trace p o a b t)
+  module _ (x : ℕ) (e : x ≡ apply_binary o a b) where
+    unrecorded : (6 ≤ o → 11 ≤ o) → value x t ≡ operated byte_trace p o a b t
     unfolding operated
-    operate_shift h g e = let s = shift_between o h g in rw (shift_no_division o s, s) e
-
-    pub operate_divide : 9 ≤ o → o < 11 → evaluation r slice ≡ until n (divided byte_trace p o a b t) → evaluation r slice ≡ until n (operated byte_trace p o a b t)
-    unfolding operated
-    operate_divide h g e = rw (division_between o h g) e
-
-  module _ (x used : ℕ) (slice : List ℕ) (e : x ≡ apply_binary o a b) where
-    unrecorded : (6 ≤ o → 11 ≤ o) → evaluation (Got x n used) slice ≡ until n (operated byte_trace p o a b (log used slice))
-    unfolding operated evaluation until
     unrecorded h = let (f, g) = neither_outside o h in rw (f, g, e)
 
-    pub operate_below : o < 6 → evaluation (Got x n used) slice ≡ until n (operated byte_trace p o a b (log used slice))
+    pub operate_below : o < 6 → value x t ≡ operated byte_trace p o a b t
     operate_below h = unrecorded (λ g. absurd (omega arith))
 
-    pub operate_above : 11 ≤ o → evaluation (Got x n used) slice ≡ until n (operated byte_trace p o a b (log used slice))
+    pub operate_above : 11 ≤ o → value x t ≡ operated byte_trace p o a b t
     operate_above h = unrecorded (λ g. h)
-
-pub ruleset operate·rules = (operate_below, operate_shift, operate_divide, operate_above)
-
-pub choose_zero : (c a b : ℕ) → c ≡ 0 → b ≡ pick (eqb c 0) b a
-choose_zero c a b h = rw h
-
-pub choose_other : (c a b : ℕ) → (c ≡ 0 → ⊥) → a ≡ pick (eqb c 0) b a
-choose_other c a b h = rw (ne_eqb c 0 h)

@@ -1,5 +1,5 @@
 -- What each way out of the evaluation of an expression gives, and what each call in it asks. Assumes nothing.
-use mathlib.Core.Path.{◌≡◌}
+use mathlib.Core.Path.{◌≡◌, refl}
 use mathlib.Core.List.{List}
 use Prim.Native.Nat.{ℕ, ◌+◌, ◌-◌, ◌<◌}
 use native.Mathlib.Omega.{arith}
@@ -7,241 +7,260 @@ use lib.Dec.{eqb}
 use lib.ListN.{length, get_or}
 use Rattle.definitions.specs.Choice.{pick}
 use Rattle.definitions.specs.Operators.{apply_unary}
-use Rattle.definitions.specs.Image.{kind_of, payload_of, Expression, cell, unary, binary, select}
+use Rattle.definitions.specs.Image.{kind_of, payload_of, base_of, Expression}
 use Rattle.definitions.specs.Reading.{got, read_expression}
-use Rattle.definitions.specs.Running.{value, operated, evaluate as value_of}
+use Rattle.definitions.specs.Running.{Evaluated, value, stop, bind, index_at, operated, evaluate as value_of}
 use Rattle.laws.specs.ExpressionInversion.{open_constant, open_raw, open_boolean, open_variable}
 use Rattle.laws.specs.ExpressionInversion.{open_cell, open_unary, open_binary, open_select}
-use Rattle.tracing.specs.declared.Value.{Value}
-use Rattle.tracing.specs.declared.Value.TheVariants.{Got, Stop}
-use Rattle.tracing.specs.Log.{log, byte_trace}
-use Rattle.tracing.specs.Answers.{evaluation, until}
 use Rattle.laws.specs.ImageIn.{image_in}
 use Rattle.image_words.specs.Read.{ExpressionRead}
 use Rattle.image_words.specs.Parts.{expression_got}
 use Rattle.tables.specs.Table.{Known}
 use Rattle.tables.specs.Looking.{image_short}
+use Rattle.tracing.specs.Log.{Log, byte_trace}
+use Rattle.evaluator.specs.declared.Value.{Value}
 use Rattle.evaluator.specs.Cells.{cell_read}
-use Rattle.evaluator.specs.Evaluation.{evaluate_at}
+use Rattle.evaluator.specs.Evaluation.{found, until, evaluate_at}
 use Rattle.evaluator.specs.Results.{tree_got, tree_stop}
 use Rattle.evaluator.specs.CellLaws.{cell_is}
 
--- a reading that is there is readable
-module _ (l : ℕ) (image table : List ℕ) (at : ℕ) (g : ExpressionRead l image at) (kn : Known image table) where
-  pub readable : (at2 : ℕ) (e : Expression) (n : ℕ) → read_expression (l - 1) image at2 ≡ got e n → (ExpressionRead (l - 1) image at2) × (Known image table)
-  readable at2 e n w = (expression_got (l - 1) image at2 e n w, kn)
+-- a place in an image fits an entry
+pub place_small : (l : ℕ) (image table : List ℕ) (at : ℕ) → ExpressionRead l image at → Known image table → at < 268435456
+place_small l image table at g kn = let s = image_short image table kn in omega (arith, g.within)
 
-  pub place_small : at < 268435456
-  place_small = let s = image_short image table kn in omega (arith, g.within)
+module _ (l : ℕ) (image : List ℕ) (at : ℕ) (g : ExpressionRead l image at) where
+  -- ---- what each call asks
 
-  pub cell_fine : kind_of (get_or image at 0) ≡ 11 → (ExpressionRead (l - 1) image (at + 1)) × (Known image table)
-  cell_fine k = let (i, n, e, q) = open_cell l image at g.read k in readable (at + 1) i n e
+  pub raw_there : kind_of (get_or image at 0) ≡ 8 → at + 1 < length image
+  raw_there k = (open_raw l image at g.read k).0
 
-  pub unary_fine : kind_of (get_or image at 0) ≡ 12 → (ExpressionRead (l - 1) image (at + 1)) × (Known image table)
-  unary_fine k = let (i, n, e, q) = open_unary l image at g.read k in readable (at + 1) i n e
+  pub index_there : kind_of (get_or image at 0) ≡ 11 → ExpressionRead (l - 1) image (at + 1)
+  index_there k = let (i, n, e, q) = open_cell l image at g.read k in expression_got (l - 1) image (at + 1) i n e
 
-  pub binary_fine : kind_of (get_or image at 0) ≡ 13 → (ExpressionRead (l - 1) image (at + 1)) × (Known image table)
-  binary_fine k = let (a, n, b, m, e, f, q) = open_binary l image at g.read k in readable (at + 1) a n e
+  pub operand_there : kind_of (get_or image at 0) ≡ 12 → ExpressionRead (l - 1) image (at + 1)
+  operand_there k = let (i, n, e, q) = open_unary l image at g.read k in expression_got (l - 1) image (at + 1) i n e
 
-  pub select_fine : kind_of (get_or image at 0) ≡ 14 → (ExpressionRead (l - 1) image (at + 1)) × (Known image table)
-  select_fine k = let (c, n, a, m, b, o, e, f, h, q) = open_select l image at g.read k in readable (at + 1) c n e
+  pub left_there : kind_of (get_or image at 0) ≡ 13 → ExpressionRead (l - 1) image (at + 1)
+  left_there k = let (a, n, b, m, e, f, q) = open_binary l image at g.read k in expression_got (l - 1) image (at + 1) a n e
 
-  pub raw_fine : kind_of (get_or image at 0) ≡ 8 → at + 1 < length image
-  raw_fine k = (open_raw l image at g.read k).0
+  pub condition_there : kind_of (get_or image at 0) ≡ 14 → ExpressionRead (l - 1) image (at + 1)
+  condition_there k =
+      let (c, n, a, m, b, o, e, f, h, q) = open_select l image at g.read k in expression_got (l - 1) image (at + 1) c n e
 
-  module _ (vs cs slice : List ℕ) (used : ℕ) (r : Value) (slice1 : List ℕ)
-      (d : evaluation r slice1 ≡ evaluate_at (image_in image).arrays vs cs (log used slice) (read_expression (l - 1) image (at + 1)))
-      (v n u : ℕ) (s : r ≡ Got v n u) where
-    pub binary_fine2 : kind_of (get_or image at 0) ≡ 13 → (ExpressionRead (l - 1) image n) × (Known image table)
-    binary_fine2 k = let (a, n1, b, m, e, f, q) = open_binary l image at g.read k in go a n1 b m e f
+  module _ (arrays vs cs : List ℕ) (t t1 : Log) (p : Value) (d : value p t1 ≡ evaluate_at arrays vs cs t (read_expression (l - 1) image (at + 1))) where
+    pub right_there : kind_of (get_or image at 0) ≡ 13 → ExpressionRead (l - 1) image p.next
+    right_there k =
+        let (a, n, b, m, e, f, q) = open_binary l image at g.read k in
+        let (y, z) = tree_got arrays vs cs t _ a n e p t1 d in
+        expression_got (l - 1) image p.next b m (rw z at f)
+
+    pub first_there : kind_of (get_or image at 0) ≡ 14 → ExpressionRead (l - 1) image p.next
+    first_there k =
+        let (c, n, a, m, b, o, e, f, h, q) = open_select l image at g.read k in
+        let (y, z) = tree_got arrays vs cs t _ c n e p t1 d in
+        expression_got (l - 1) image p.next a m (rw z at f)
+
+    pub second_there : kind_of (get_or image at 0) ≡ 14 → (t2 : Log) (r : Value)
+        → value r t2 ≡ evaluate_at arrays vs cs t1 (read_expression (l - 1) image p.next) → ExpressionRead (l - 1) image r.next
+    second_there k t2 r d2 =
+        let (c, n, a, m, b, o, e, f, h, q) = open_select l image at g.read k in
+        let (y, z) = tree_got arrays vs cs t _ c n e p t1 d in
+        let f2 : read_expression (l - 1) image p.next ≡ got a m = rw z at f in
+        let (y2, z2) = tree_got arrays vs cs t1 _ a m f2 r t2 d2 in
+        expression_got (l - 1) image r.next b o (rw z2 at h)
+
+  -- ---- what each way out gives
+
+  module _ (arrays vs cs : List ℕ) (t : Log) where
+    pub variable_got : (p i x : ℕ) → kind_of (get_or image at 0) ≡ 10 → p ≡ payload_of (get_or image at 0) → i ≡ p → x ≡ get_or vs i 0
+        → value (found x (at + 1)) t ≡ evaluate_at arrays vs cs t (read_expression l image at)
+    unfolding evaluate_at until value_of
+    variable_got p i x k hp hi e = rw (open_variable l image at g.read k, e, hi, hp)
+
+    pub constant_got : (p : ℕ) → kind_of (get_or image at 0) ≡ 7 → p ≡ payload_of (get_or image at 0)
+        → value (found p (at + 1)) t ≡ evaluate_at arrays vs cs t (read_expression l image at)
+    unfolding evaluate_at until value_of
+    constant_got p k hp = rw (open_constant l image at g.read k, hp)
+
+    pub boolean_got : (p : ℕ) → kind_of (get_or image at 0) ≡ 9 → p ≡ payload_of (get_or image at 0)
+        → value (found p (at + 1)) t ≡ evaluate_at arrays vs cs t (read_expression l image at)
+    unfolding evaluate_at until value_of
+    boolean_got p k hp = rw (open_boolean l image at g.read k, hp)
+
+    pub raw_got : (x : ℕ) → kind_of (get_or image at 0) ≡ 8 → x ≡ get_or image (at + 1) 0
+        → value (found x (at + 2)) t ≡ evaluate_at arrays vs cs t (read_expression l image at)
+    unfolding evaluate_at until value_of
+    raw_got x k e = let two : at + 2 ≡ at + 1 + 1 = omega arith in rw (two, (open_raw l image at g.read k).2, e)
+
+  pub cell_stopped : (arrays vs cs : List ℕ) (t t1 : Log) (i q : ℕ) → kind_of (get_or image at 0) ≡ 11
+      → stop i q t1 ≡ evaluate_at arrays vs cs t (read_expression (l - 1) image (at + 1))
+      → stop i q t1 ≡ evaluate_at arrays vs cs t (read_expression l image at)
+  unfolding evaluate_at until value_of
+  cell_stopped arrays vs cs t t1 i q k d =
+      let (e, n, w, h) = open_cell l image at g.read k in
+      let stopped : value_of byte_trace arrays e vs cs t ≡ stop i q t1 = tree_stop arrays vs cs t _ e n w i q t1 d in
+      rw (h, stopped)
+
+  module _ (table vs cs : List ℕ) (t : Log) (kn : Known image table) (k : kind_of (get_or image at 0) ≡ 11) where
+    -- a cell is its index, then what stands there
+    cell_opened : evaluate_at (image_in image).arrays vs cs t (read_expression l image at)
+        ≡ bind (evaluate_at (image_in image).arrays vs cs t (read_expression (l - 1) image (at + 1)))
+        (λ p u. bind (cell_read table cs (payload_of (get_or image at 0)) at p.word u) (λ v x. value (found v p.next) x))
+    unfolding evaluate_at until value_of
+    cell_opened = let (i, n, e, q) = open_cell l image at g.read k in rw (q, e) (step n (value_of byte_trace (image_in image).arrays i vs cs t))
       where
-        go : (a : Expression) (n1 : ℕ) (b : Expression) (m : ℕ) → read_expression (l - 1) image (at + 1) ≡ got a n1
-            → read_expression (l - 1) image n1 ≡ got b m → (ExpressionRead (l - 1) image n) × (Known image table)
-        go a n1 b m e f =
-            let (y, z) = tree_got (image_in image).arrays vs cs (log used slice) _ a n1 e r slice1 d v n u s in readable n b m (rw z at f)
+        step : (n : ℕ) (x : Evaluated Log ℕ)
+            → bind (bind x (λ v t₁. bind (index_at byte_trace (image_in image).arrays (payload_of (get_or image at 0)) at v t₁)
+            (λ j t₂. value (get_or cs (base_of (image_in image).arrays (payload_of (get_or image at 0)) + j) 0) t₂)))
+            (λ v u. value (found v n) u)
+            ≡ bind (bind x (λ v u. value (found v n) u))
+            (λ p u. bind (cell_read table cs (payload_of (get_or image at 0)) at p.word u) (λ v y. value (found v p.next) y))
+        step n (value v u) = rw (cell_is image table kn (payload_of (get_or image at 0)) at v u cs)
+        step n (stop i q u) = refl
 
-    pub select_fine2 : kind_of (get_or image at 0) ≡ 14 → (ExpressionRead (l - 1) image n) × (Known image table)
-    select_fine2 k = let (c, n1, a, m, b, o, e, f, h, q) = open_select l image at g.read k in go c n1 a m e f
-      where
-        go : (c : Expression) (n1 : ℕ) (a : Expression) (m : ℕ) → read_expression (l - 1) image (at + 1) ≡ got c n1
-            → read_expression (l - 1) image n1 ≡ got a m → (ExpressionRead (l - 1) image n) × (Known image table)
-        go c n1 a m e f =
-            let (y, z) = tree_got (image_in image).arrays vs cs (log used slice) _ c n1 e r slice1 d v n u s in readable n a m (rw z at f)
+    module _ (p : Value) (a : ℕ) (t1 t2 : Log) (ha : a ≡ payload_of (get_or image at 0))
+        (d : value p t1 ≡ evaluate_at (image_in image).arrays vs cs t (read_expression (l - 1) image (at + 1))) where
+      pub cell_beyond : (i q : ℕ) → stop i q t2 ≡ cell_read table cs a at p.word t1
+          → stop i q t2 ≡ evaluate_at (image_in image).arrays vs cs t (read_expression l image at)
+      cell_beyond i q f = rw (cell_opened, ← d, ← ha, ← f)
 
-    module _ (r2 : Value) (slice2 : List ℕ)
-        (d2 : evaluation r2 slice2 ≡ evaluate_at (image_in image).arrays vs cs (log u slice1) (read_expression (l - 1) image n))
-        (v2 n2 u2 : ℕ) (s2 : r2 ≡ Got v2 n2 u2) where
-      pub select_fine3 : kind_of (get_or image at 0) ≡ 14 → (ExpressionRead (l - 1) image n2) × (Known image table)
-      select_fine3 k = let (c, n1, a, m, b, o, e, f, h, q) = open_select l image at g.read k in go c n1 a m b o e f h
+      pub cell_there : (x : ℕ) → value x t2 ≡ cell_read table cs a at p.word t1
+          → value (found x p.next) t2 ≡ evaluate_at (image_in image).arrays vs cs t (read_expression l image at)
+      cell_there x f = rw (cell_opened, ← d, ← ha, ← f)
+
+  module _ (arrays vs cs : List ℕ) (t : Log) where
+    module _ (k : kind_of (get_or image at 0) ≡ 12) where
+      unary_opened : evaluate_at arrays vs cs t (read_expression l image at)
+          ≡ bind (evaluate_at arrays vs cs t (read_expression (l - 1) image (at + 1)))
+          (λ p u. value (found (apply_unary (payload_of (get_or image at 0)) p.word) p.next) u)
+      unfolding evaluate_at until value_of
+      unary_opened = let (i, n, e, q) = open_unary l image at g.read k in rw (q, e) (step n (value_of byte_trace arrays i vs cs t))
         where
-          go : (c : Expression) (n1 : ℕ) (a : Expression) (m : ℕ) (b : Expression) (o : ℕ) → read_expression (l - 1) image (at + 1) ≡ got c n1
-              → read_expression (l - 1) image n1 ≡ got a m → read_expression (l - 1) image m ≡ got b o → (ExpressionRead (l - 1) image n2) × (Known image table)
-          go c n1 a m b o e f h =
-              let (y, z) = tree_got (image_in image).arrays vs cs (log used slice) _ c n1 e r slice1 d v n u s in
-              let f2 : read_expression (l - 1) image n ≡ got a m = rw z at f in
-              let (y2, z2) = tree_got (image_in image).arrays vs cs (log u slice1) _ a m f2 r2 slice2 d2 v2 n2 u2 s2 in
-              readable n2 b o (rw z2 at h)
+          step : (n : ℕ) (x : Evaluated Log ℕ)
+              → bind (bind x (λ v t₁. value (apply_unary (payload_of (get_or image at 0)) v) t₁)) (λ v u. value (found v n) u)
+              ≡ bind (bind x (λ v u. value (found v n) u))
+              (λ p u. value (found (apply_unary (payload_of (get_or image at 0)) p.word) p.next) u)
+          step n (value v u) = refl
+          step n (stop i q u) = refl
 
--- ---- what each way out gives
+      pub unary_stopped : (i q : ℕ) (t1 : Log) → stop i q t1 ≡ evaluate_at arrays vs cs t (read_expression (l - 1) image (at + 1))
+          → stop i q t1 ≡ evaluate_at arrays vs cs t (read_expression l image at)
+      unary_stopped i q t1 d = rw (unary_opened, ← d)
 
-module _ (l : ℕ) (image table : List ℕ) (at : ℕ) (g : ExpressionRead l image at) (kn : Known image table) (vs cs slice : List ℕ) (used : ℕ) where
-  pub variable_got : (p i x : ℕ) → kind_of (get_or image at 0) ≡ 10 → p ≡ payload_of (get_or image at 0) → i ≡ p → x ≡ get_or vs i 0
-      → evaluation (Got x (at + 1) used) slice ≡ evaluate_at (image_in image).arrays vs cs (log used slice) (read_expression l image at)
-  unfolding evaluation evaluate_at until value_of
-  variable_got p i x k hp hi e = rw (open_variable l image at g.read k, e, hi, hp)
+      pub unary_got : (p : Value) (o x : ℕ) (t1 : Log) → value p t1 ≡ evaluate_at arrays vs cs t (read_expression (l - 1) image (at + 1))
+          → x ≡ apply_unary o p.word → o ≡ payload_of (get_or image at 0)
+          → value (found x p.next) t1 ≡ evaluate_at arrays vs cs t (read_expression l image at)
+      unary_got p o x t1 d e ho = rw (unary_opened, ← d, e, ho)
 
-  pub constant_got : (p : ℕ) → kind_of (get_or image at 0) ≡ 7 → p ≡ payload_of (get_or image at 0)
-      → evaluation (Got p (at + 1) used) slice ≡ evaluate_at (image_in image).arrays vs cs (log used slice) (read_expression l image at)
-  unfolding evaluation evaluate_at until value_of
-  constant_got p k hp = rw (open_constant l image at g.read k, hp)
-
-  pub boolean_got : (p : ℕ) → kind_of (get_or image at 0) ≡ 9 → p ≡ payload_of (get_or image at 0)
-      → evaluation (Got p (at + 1) used) slice ≡ evaluate_at (image_in image).arrays vs cs (log used slice) (read_expression l image at)
-  unfolding evaluation evaluate_at until value_of
-  boolean_got p k hp = rw (open_boolean l image at g.read k, hp)
-
-  pub raw_got : (x : ℕ) → kind_of (get_or image at 0) ≡ 8 → x ≡ get_or image (at + 1) 0
-      → evaluation (Got x (at + 1 + 1) used) slice ≡ evaluate_at (image_in image).arrays vs cs (log used slice) (read_expression l image at)
-  unfolding evaluation evaluate_at until value_of
-  raw_got x k e = rw ((open_raw l image at g.read k).2, e)
-
-  module _ (r : Value) (slice1 : List ℕ)
-      (d : evaluation r slice1 ≡ evaluate_at (image_in image).arrays vs cs (log used slice) (read_expression (l - 1) image (at + 1))) where
-    pub cell_stopped : (k q u : ℕ) → kind_of (get_or image at 0) ≡ 11 → r ≡ Stop k q u
-        → evaluation r slice1 ≡ evaluate_at (image_in image).arrays vs cs (log used slice) (read_expression l image at)
-    unfolding evaluation evaluate_at until value_of
-    cell_stopped k q u h s = let (i, n, e, w) = open_cell l image at g.read h in go i n e w
-      where
-        go : (i : Expression) (n : ℕ) → read_expression (l - 1) image (at + 1) ≡ got i n
-            → read_expression l image at ≡ got (cell at (payload_of (get_or image at 0)) i) n
-            → evaluation r slice1 ≡ evaluate_at (image_in image).arrays vs cs (log used slice) (read_expression l image at)
-        go i n e w = rw (s, w, tree_stop (image_in image).arrays vs cs (log used slice) _ i n e r slice1 d k q u s)
-
-    pub cell_read_lem : (v m u b : ℕ) (r2 : Value) (slice2 : List ℕ) → kind_of (get_or image at 0) ≡ 11 → b ≡ payload_of (get_or image at 0) → r ≡ Got v m u
-        → evaluation r2 slice2 ≡ until m (cell_read table cs b at v (log u slice1))
-        → evaluation r2 slice2 ≡ evaluate_at (image_in image).arrays vs cs (log used slice) (read_expression l image at)
-    unfolding evaluate_at value_of
-    cell_read_lem v m u b r2 slice2 h hb s d2 = let (i, n, e, w) = open_cell l image at g.read h in go i n e w
-      where
-        go : (i : Expression) (n : ℕ) → read_expression (l - 1) image (at + 1) ≡ got i n
-            → read_expression l image at ≡ got (cell at (payload_of (get_or image at 0)) i) n
-            → evaluation r2 slice2 ≡ evaluate_at (image_in image).arrays vs cs (log used slice) (read_expression l image at)
-        go i n e w =
-            let (y, z) = tree_got (image_in image).arrays vs cs (log used slice) _ i n e r slice1 d v m u s in
-            rw (w, y, z, d2, hb, cell_is image table kn (payload_of (get_or image at 0)) at v (log u slice1) cs)
-
-    pub unary_stopped : (k q u : ℕ) → kind_of (get_or image at 0) ≡ 12 → r ≡ Stop k q u
-        → evaluation r slice1 ≡ evaluate_at (image_in image).arrays vs cs (log used slice) (read_expression l image at)
-    unfolding evaluation evaluate_at until value_of
-    unary_stopped k q u h s = let (i, n, e, w) = open_unary l image at g.read h in go i n e w
-      where
-        go : (i : Expression) (n : ℕ) → read_expression (l - 1) image (at + 1) ≡ got i n
-            → read_expression l image at ≡ got (unary at (payload_of (get_or image at 0)) i) n
-            → evaluation r slice1 ≡ evaluate_at (image_in image).arrays vs cs (log used slice) (read_expression l image at)
-        go i n e w = rw (s, w, tree_stop (image_in image).arrays vs cs (log used slice) _ i n e r slice1 d k q u s)
-
-    pub unary_got : (v m u b x : ℕ) → kind_of (get_or image at 0) ≡ 12 → b ≡ payload_of (get_or image at 0) → r ≡ Got v m u → x ≡ apply_unary b v
-        → evaluation (Got x m u) slice1 ≡ evaluate_at (image_in image).arrays vs cs (log used slice) (read_expression l image at)
-    unfolding evaluation evaluate_at until value_of
-    unary_got v m u b x h hb s d2 = let (i, n, e, w) = open_unary l image at g.read h in go i n e w
-      where
-        go : (i : Expression) (n : ℕ) → read_expression (l - 1) image (at + 1) ≡ got i n
-            → read_expression l image at ≡ got (unary at (payload_of (get_or image at 0)) i) n
-            → evaluation (Got x m u) slice1 ≡ evaluate_at (image_in image).arrays vs cs (log used slice) (read_expression l image at)
-        go i n e w = let (y, z) = tree_got (image_in image).arrays vs cs (log used slice) _ i n e r slice1 d v m u s in rw (w, y, z, d2, hb)
-
-    pub binary_stopped : (k q u : ℕ) → kind_of (get_or image at 0) ≡ 13 → r ≡ Stop k q u
-        → evaluation r slice1 ≡ evaluate_at (image_in image).arrays vs cs (log used slice) (read_expression l image at)
-    unfolding evaluation evaluate_at until value_of
-    binary_stopped k q u h s = let (a, n, b, m, e, f, w) = open_binary l image at g.read h in go a n b m e w
-      where
-        go : (a : Expression) (n : ℕ) (b : Expression) (m : ℕ) → read_expression (l - 1) image (at + 1) ≡ got a n
-            → read_expression l image at ≡ got (binary at (payload_of (get_or image at 0)) a b) m
-            → evaluation r slice1 ≡ evaluate_at (image_in image).arrays vs cs (log used slice) (read_expression l image at)
-        go a n b m e w = rw (s, w, tree_stop (image_in image).arrays vs cs (log used slice) _ a n e r slice1 d k q u s)
-
-    pub select_stopped : (k q u : ℕ) → kind_of (get_or image at 0) ≡ 14 → r ≡ Stop k q u
-        → evaluation r slice1 ≡ evaluate_at (image_in image).arrays vs cs (log used slice) (read_expression l image at)
-    unfolding evaluation evaluate_at until value_of
-    select_stopped k q u h s = let (c, n, a, m, b, o, e, f, j, w) = open_select l image at g.read h in go c n a b o e w
-      where
-        go : (c : Expression) (n : ℕ) (a b : Expression) (o : ℕ) → read_expression (l - 1) image (at + 1) ≡ got c n
-            → read_expression l image at ≡ got (select at c a b) o
-            → evaluation r slice1 ≡ evaluate_at (image_in image).arrays vs cs (log used slice) (read_expression l image at)
-        go c n a b o e w = rw (s, w, tree_stop (image_in image).arrays vs cs (log used slice) _ c n e r slice1 d k q u s)
-
-    module _ (v n u : ℕ) (s : r ≡ Got v n u) (r2 : Value) (slice2 : List ℕ)
-        (d2 : evaluation r2 slice2 ≡ evaluate_at (image_in image).arrays vs cs (log u slice1) (read_expression (l - 1) image n)) where
-      -- both operands' results
-      two : (a : Expression) (n1 : ℕ) (b : Expression) (m : ℕ) → read_expression (l - 1) image (at + 1) ≡ got a n1 → read_expression (l - 1) image n1 ≡ got b m
-          → (value_of byte_trace (image_in image).arrays a vs cs (log used slice) ≡ value v (log u slice1)) × (read_expression (l - 1) image n ≡ got b m)
-      two a n1 b m e f = let (y, z) = tree_got (image_in image).arrays vs cs (log used slice) _ a n1 e r slice1 d v n u s in (y, rw z at f)
-
-      pub binary_stopped2 : (k q u2 : ℕ) → kind_of (get_or image at 0) ≡ 13 → r2 ≡ Stop k q u2
-          → evaluation r2 slice2 ≡ evaluate_at (image_in image).arrays vs cs (log used slice) (read_expression l image at)
-      unfolding evaluation evaluate_at until value_of
-      binary_stopped2 k q u2 h s2 = let (a, n1, b, m, e, f, w) = open_binary l image at g.read h in go a n1 b m e f w
+    module _ (k : kind_of (get_or image at 0) ≡ 13) where
+      binary_opened : evaluate_at arrays vs cs t (read_expression l image at)
+          ≡ bind (evaluate_at arrays vs cs t (read_expression (l - 1) image (at + 1)))
+          (λ p u. bind (evaluate_at arrays vs cs u (read_expression (l - 1) image p.next))
+          (λ r x. bind (operated byte_trace at (payload_of (get_or image at 0)) p.word r.word x) (λ v y. value (found v r.next) y)))
+      unfolding evaluate_at until value_of
+      binary_opened = let (a, n, b, m, e, f, q) = open_binary l image at g.read k in rw (q, e) (step b n m f (value_of byte_trace arrays a vs cs t))
         where
-          go : (a : Expression) (n1 : ℕ) (b : Expression) (m : ℕ) → read_expression (l - 1) image (at + 1) ≡ got a n1 → read_expression (l - 1) image n1 ≡ got b m
-              → read_expression l image at ≡ got (binary at (payload_of (get_or image at 0)) a b) m
-              → evaluation r2 slice2 ≡ evaluate_at (image_in image).arrays vs cs (log used slice) (read_expression l image at)
-          go a n1 b m e f w =
-              let (y, f2) = two a n1 b m e f in
-              rw (s2, w, y, tree_stop (image_in image).arrays vs cs (log u slice1) _ b m f2 r2 slice2 d2 k q u2 s2)
-
-      pub select_stopped2 : (k q u2 : ℕ) → kind_of (get_or image at 0) ≡ 14 → r2 ≡ Stop k q u2
-          → evaluation r2 slice2 ≡ evaluate_at (image_in image).arrays vs cs (log used slice) (read_expression l image at)
-      unfolding evaluation evaluate_at until value_of
-      select_stopped2 k q u2 h s2 = let (c, n1, a, m, b, o, e, f, j, w) = open_select l image at g.read h in go c n1 a m b o e f w
-        where
-          go : (c : Expression) (n1 : ℕ) (a : Expression) (m : ℕ) (b : Expression) (o : ℕ) → read_expression (l - 1) image (at + 1) ≡ got c n1
-              → read_expression (l - 1) image n1 ≡ got a m → read_expression l image at ≡ got (select at c a b) o
-              → evaluation r2 slice2 ≡ evaluate_at (image_in image).arrays vs cs (log used slice) (read_expression l image at)
-          go c n1 a m b o e f w =
-              let (y, f2) = two c n1 a m e f in
-              rw (s2, w, y, tree_stop (image_in image).arrays vs cs (log u slice1) _ a m f2 r2 slice2 d2 k q u2 s2)
-
-      module _ (v2 n2 u2 : ℕ) (s2 : r2 ≡ Got v2 n2 u2) (r3 : Value) (slice3 : List ℕ) where
-        pub binary_done : (op : ℕ) → op ≡ payload_of (get_or image at 0) → kind_of (get_or image at 0) ≡ 13
-            → evaluation r3 slice3 ≡ until n2 (operated byte_trace at op v v2 (log u2 slice2))
-            → evaluation r3 slice3 ≡ evaluate_at (image_in image).arrays vs cs (log used slice) (read_expression l image at)
-        unfolding evaluate_at value_of
-        binary_done op p h d3 = let (a, n1, b, m, e, f, w) = open_binary l image at g.read h in go a n1 b m e f w
-          where
-            go : (a : Expression) (n1 : ℕ) (b : Expression) (m : ℕ) → read_expression (l - 1) image (at + 1) ≡ got a n1 → read_expression (l - 1) image n1 ≡ got b m
-                → read_expression l image at ≡ got (binary at (payload_of (get_or image at 0)) a b) m
-                → evaluation r3 slice3 ≡ evaluate_at (image_in image).arrays vs cs (log used slice) (read_expression l image at)
-            go a n1 b m e f w =
-                let (y, f2) = two a n1 b m e f in
-                let (y2, z2) = tree_got (image_in image).arrays vs cs (log u slice1) _ b m f2 r2 slice2 d2 v2 n2 u2 s2 in
-                rw (w, y, y2, z2, d3, p)
-
-        module _ (d3 : evaluation r3 slice3 ≡ evaluate_at (image_in image).arrays vs cs (log u2 slice2) (read_expression (l - 1) image n2)) where
-          pub select_stopped3 : (k q u3 : ℕ) → kind_of (get_or image at 0) ≡ 14 → r3 ≡ Stop k q u3
-              → evaluation r3 slice3 ≡ evaluate_at (image_in image).arrays vs cs (log used slice) (read_expression l image at)
-          unfolding evaluation evaluate_at until value_of
-          select_stopped3 k q u3 h s3 = let (c, n1, a, m, b, o, e, f, j, w) = open_select l image at g.read h in go c n1 a m b o e f j w
+          step : (b : Expression) (n m : ℕ) → read_expression (l - 1) image n ≡ got b m → (x : Evaluated Log ℕ)
+              → bind (bind x (λ v t₁. bind (value_of byte_trace arrays b vs cs t₁) (λ w t₂. operated byte_trace at (payload_of (get_or image at 0)) v w t₂)))
+              (λ v u. value (found v m) u)
+              ≡ bind (bind x (λ v u. value (found v n) u))
+              (λ p u. bind (evaluate_at arrays vs cs u (read_expression (l - 1) image p.next))
+              (λ r y. bind (operated byte_trace at (payload_of (get_or image at 0)) p.word r.word y) (λ v z. value (found v r.next) z)))
+          step b n m f (value v u) = rw f (last m v (value_of byte_trace arrays b vs cs u))
             where
-              go : (c : Expression) (n1 : ℕ) (a : Expression) (m : ℕ) (b : Expression) (o : ℕ) → read_expression (l - 1) image (at + 1) ≡ got c n1
-                  → read_expression (l - 1) image n1 ≡ got a m → read_expression (l - 1) image m ≡ got b o → read_expression l image at ≡ got (select at c a b) o
-                  → evaluation r3 slice3 ≡ evaluate_at (image_in image).arrays vs cs (log used slice) (read_expression l image at)
-              go c n1 a m b o e f j w =
-                  let (y, f2) = two c n1 a m e f in
-                  let (y2, z2) = tree_got (image_in image).arrays vs cs (log u slice1) _ a m f2 r2 slice2 d2 v2 n2 u2 s2 in
-                  let j2 : read_expression (l - 1) image n2 ≡ got b o = rw z2 at j in
-                  rw (s3, w, y, y2, tree_stop (image_in image).arrays vs cs (log u2 slice2) _ b o j2 r3 slice3 d3 k q u3 s3)
+              last : (m v : ℕ) (x : Evaluated Log ℕ)
+                  → bind (bind x (λ w t₂. operated byte_trace at (payload_of (get_or image at 0)) v w t₂)) (λ w u. value (found w m) u)
+                  ≡ bind (bind x (λ w u. value (found w m) u))
+                  (λ r y. bind (operated byte_trace at (payload_of (get_or image at 0)) v r.word y) (λ w z. value (found w r.next) z))
+              last m v (value w u) = refl
+              last m v (stop i q u) = refl
+          step b n m f (stop i q u) = refl
 
-          pub select_done : (v3 n3 u3 x : ℕ) → kind_of (get_or image at 0) ≡ 14 → r3 ≡ Got v3 n3 u3 → x ≡ pick (eqb v 0) v3 v2
-              → evaluation (Got x n3 u3) slice3 ≡ evaluate_at (image_in image).arrays vs cs (log used slice) (read_expression l image at)
-          unfolding evaluation evaluate_at until value_of
-          select_done v3 n3 u3 x h s3 p = let (c, n1, a, m, b, o, e, f, j, w) = open_select l image at g.read h in go c n1 a m b o e f j w
+      pub left_stopped : (i q : ℕ) (t1 : Log) → stop i q t1 ≡ evaluate_at arrays vs cs t (read_expression (l - 1) image (at + 1))
+          → stop i q t1 ≡ evaluate_at arrays vs cs t (read_expression l image at)
+      left_stopped i q t1 d = rw (binary_opened, ← d)
+
+      module _ (p : Value) (t1 : Log) (d : value p t1 ≡ evaluate_at arrays vs cs t (read_expression (l - 1) image (at + 1))) (t2 : Log) where
+        pub right_stopped : (i q : ℕ) → stop i q t2 ≡ evaluate_at arrays vs cs t1 (read_expression (l - 1) image p.next)
+            → stop i q t2 ≡ evaluate_at arrays vs cs t (read_expression l image at)
+        right_stopped i q f = rw (binary_opened, ← d, ← f)
+
+        module _ (r : Value) (f : value r t2 ≡ evaluate_at arrays vs cs t1 (read_expression (l - 1) image p.next)) (o : ℕ)
+            (ho : o ≡ payload_of (get_or image at 0)) (t3 : Log) where
+          pub operator_stopped : (i q : ℕ) → stop i q t3 ≡ operated byte_trace at o p.word r.word t2
+              → stop i q t3 ≡ evaluate_at arrays vs cs t (read_expression l image at)
+          operator_stopped i q h = rw (binary_opened, ← d, ← f, ← ho, ← h)
+
+          pub binary_done : (x : ℕ) → value x t3 ≡ operated byte_trace at o p.word r.word t2
+              → value (found x r.next) t3 ≡ evaluate_at arrays vs cs t (read_expression l image at)
+          binary_done x h = rw (binary_opened, ← d, ← f, ← ho, ← h)
+
+    module _ (k : kind_of (get_or image at 0) ≡ 14) where
+      select_opened : evaluate_at arrays vs cs t (read_expression l image at)
+          ≡ bind (evaluate_at arrays vs cs t (read_expression (l - 1) image (at + 1)))
+          (λ p u. bind (evaluate_at arrays vs cs u (read_expression (l - 1) image p.next))
+          (λ r x. bind (evaluate_at arrays vs cs x (read_expression (l - 1) image r.next))
+          (λ s y. value (found (pick (eqb p.word 0) s.word r.word) s.next) y)))
+      unfolding evaluate_at until value_of
+      select_opened =
+          let (c, n, a, m, b, o, e, f, h, q) = open_select l image at g.read k in
+          rw (q, e) (step a b n m o f h (value_of byte_trace arrays c vs cs t))
+        where
+          last : (b : Expression) (n o v w : ℕ) → read_expression (l - 1) image n ≡ got b o → (u : Log)
+              → bind (bind (value_of byte_trace arrays b vs cs u) (λ z t₃. value (pick (eqb v 0) z w) t₃)) (λ z y. value (found z o) y)
+              ≡ bind (evaluate_at arrays vs cs u (read_expression (l - 1) image n))
+              (λ s y. value (found (pick (eqb v 0) s.word w) s.next) y)
+          last b n o v w h u = rw h (go (value_of byte_trace arrays b vs cs u))
             where
-              go : (c : Expression) (n1 : ℕ) (a : Expression) (m : ℕ) (b : Expression) (o : ℕ) → read_expression (l - 1) image (at + 1) ≡ got c n1
-                  → read_expression (l - 1) image n1 ≡ got a m → read_expression (l - 1) image m ≡ got b o → read_expression l image at ≡ got (select at c a b) o
-                  → evaluation (Got x n3 u3) slice3 ≡ evaluate_at (image_in image).arrays vs cs (log used slice) (read_expression l image at)
-              go c n1 a m b o e f j w =
-                  let (y, f2) = two c n1 a m e f in
-                  let (y2, z2) = tree_got (image_in image).arrays vs cs (log u slice1) _ a m f2 r2 slice2 d2 v2 n2 u2 s2 in
-                  let j2 : read_expression (l - 1) image n2 ≡ got b o = rw z2 at j in
-                  let (y3, z3) = tree_got (image_in image).arrays vs cs (log u2 slice2) _ b o j2 r3 slice3 d3 v3 n3 u3 s3 in
-                  rw (w, y, y2, y3, z3, p)
+              go : (x : Evaluated Log ℕ)
+                  → bind (bind x (λ z t₃. value (pick (eqb v 0) z w) t₃)) (λ z y. value (found z o) y)
+                  ≡ bind (bind x (λ z y. value (found z o) y))
+                  (λ s y. value (found (pick (eqb v 0) s.word w) s.next) y)
+              go (value z y) = refl
+              go (stop i q y) = refl
+
+          middle : (a b : Expression) (n m o v : ℕ) → read_expression (l - 1) image n ≡ got a m → read_expression (l - 1) image m ≡ got b o → (u : Log)
+              → bind (bind (value_of byte_trace arrays a vs cs u)
+              (λ w t₂. bind (value_of byte_trace arrays b vs cs t₂) (λ z t₃. value (pick (eqb v 0) z w) t₃))) (λ z y. value (found z o) y)
+              ≡ bind (evaluate_at arrays vs cs u (read_expression (l - 1) image n))
+              (λ r x. bind (evaluate_at arrays vs cs x (read_expression (l - 1) image r.next))
+              (λ s y. value (found (pick (eqb v 0) s.word r.word) s.next) y))
+          middle a b n m o v f h u = rw f (go (value_of byte_trace arrays a vs cs u))
+            where
+              go : (x : Evaluated Log ℕ)
+                  → bind (bind x (λ w t₂. bind (value_of byte_trace arrays b vs cs t₂) (λ z t₃. value (pick (eqb v 0) z w) t₃)))
+                  (λ z y. value (found z o) y)
+                  ≡ bind (bind x (λ w y. value (found w m) y))
+                  (λ r x. bind (evaluate_at arrays vs cs x (read_expression (l - 1) image r.next))
+                  (λ s y. value (found (pick (eqb v 0) s.word r.word) s.next) y))
+              go (value w y) = last b m o v w h y
+              go (stop i q y) = refl
+
+          step : (a b : Expression) (n m o : ℕ) → read_expression (l - 1) image n ≡ got a m → read_expression (l - 1) image m ≡ got b o → (x : Evaluated Log ℕ)
+              → bind (bind x (λ v t₁. bind (value_of byte_trace arrays a vs cs t₁)
+              (λ w t₂. bind (value_of byte_trace arrays b vs cs t₂) (λ z t₃. value (pick (eqb v 0) z w) t₃)))) (λ z y. value (found z o) y)
+              ≡ bind (bind x (λ v y. value (found v n) y))
+              (λ p u. bind (evaluate_at arrays vs cs u (read_expression (l - 1) image p.next))
+              (λ r x. bind (evaluate_at arrays vs cs x (read_expression (l - 1) image r.next))
+              (λ s y. value (found (pick (eqb p.word 0) s.word r.word) s.next) y)))
+          step a b n m o f h (value v u) = middle a b n m o v f h u
+          step a b n m o f h (stop i q u) = refl
+
+      pub condition_stopped : (i q : ℕ) (t1 : Log) → stop i q t1 ≡ evaluate_at arrays vs cs t (read_expression (l - 1) image (at + 1))
+          → stop i q t1 ≡ evaluate_at arrays vs cs t (read_expression l image at)
+      condition_stopped i q t1 d = rw (select_opened, ← d)
+
+      module _ (p : Value) (t1 : Log) (d : value p t1 ≡ evaluate_at arrays vs cs t (read_expression (l - 1) image (at + 1))) (t2 : Log) where
+        pub first_stopped : (i q : ℕ) → stop i q t2 ≡ evaluate_at arrays vs cs t1 (read_expression (l - 1) image p.next)
+            → stop i q t2 ≡ evaluate_at arrays vs cs t (read_expression l image at)
+        first_stopped i q f = rw (select_opened, ← d, ← f)
+
+        module _ (r : Value) (f : value r t2 ≡ evaluate_at arrays vs cs t1 (read_expression (l - 1) image p.next)) (t3 : Log) where
+          pub second_stopped : (i q : ℕ) → stop i q t3 ≡ evaluate_at arrays vs cs t2 (read_expression (l - 1) image r.next)
+              → stop i q t3 ≡ evaluate_at arrays vs cs t (read_expression l image at)
+          second_stopped i q h = rw (select_opened, ← d, ← f, ← h)
+
+          pub select_done : (s : Value) (x : ℕ) → value s t3 ≡ evaluate_at arrays vs cs t2 (read_expression (l - 1) image r.next)
+              → x ≡ pick (eqb p.word 0) s.word r.word
+              → value (found x s.next) t3 ≡ evaluate_at arrays vs cs t (read_expression l image at)
+          select_done s x h e = rw (select_opened, ← d, ← f, ← h, e)

@@ -10,21 +10,16 @@ use definitions::Fault;
 fn goes_before(best: Fault, number: u32, place: usize) -> bool
     ensures { result ≡ (eqb best.number 0 || (ltb place best.place || eqb place best.place && ltb number best.number)) }
 {
-    let n = best.number;
-    let p = best.place;
-    (n == 0) | ((place < p) | ((place == p) & (number < n)))
+    best.number == 0 || (place, number) < (best.place, best.number)
 }
 
 // The lowest of `best` and the fault of a rule, where it is broken. Numbers of faults are not 0.
-#[tactic(auto, using(crate::proofs::Rules::note_kept, crate::proofs::Rules::note_new, crate::proofs::Rules::note_old))]
+#[tactic(auto, unfolding(definitions::specs::Faults::least))]
 pub fn note(best: Fault, broken: bool, number: u32, place: usize) -> Fault
     requires { 1 ≤ number }
     ensures { result ≡ least best (fault_if broken number place) }
 {
-    if !broken {
-        return best;
-    }
-    if goes_before(best, number, place) {
+    if broken && goes_before(best, number, place) {
         return Fault { number, place };
     }
     best

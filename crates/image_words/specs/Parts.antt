@@ -1,7 +1,7 @@
 -- The parts of an expression that was read were read too, each where the one before it ends; k is the kind of its word.
 -- Assumes nothing.
-use Rattle.std.specs.Prelude.{ℕ, ◌+◌, ◌-◌, ◌<◌, true, List, ◌≡◌, length, get_or}
-use Rattle.std.proofs.Common.{sym, ap, ◌∙◌}
+use Rattle.std.specs.Prelude.{ℕ, ◌+◌, ◌-◌, ◌<◌, ◌≤◌, true, List, ◌≡◌, length, get_or}
+use Rattle.std.proofs.Common.{sym, ap, ◌∙◌, arith}
 use Rattle.definitions.specs.Image.{kind_of, Expression}
 use Rattle.definitions.specs.Reading.{got, read_expression}
 use Rattle.laws.specs.Parses.{ok, end_of, ok_of, end_of_lem}
@@ -31,6 +31,10 @@ pair_got l image at e f n m q r =
       second = expression_got l image (end_of (read_expression l image at)) f m (ap (λ z. read_expression l image z) (end_of_lem _ e n q) ∙ r);
     }
 
+-- a number that is neither below 7 nor above 14
+outside : (k : ℕ) → (k ≤ 6 → ⊥) → (15 ≤ k → ⊥) → (6 < k) × (k < 15)
+outside k low high = omega arith
+
 module _ (l : ℕ) (image : List ℕ) (at : ℕ) (t : ok (read_expression l image at) ≡ true) (k : ℕ) (hk : k ≡ kind_of (get_or image at 0)) where
   pub read_raw : k ≡ 8 → at + 1 < length image
   read_raw h = (open_raw l image at t (told hk h)).0
@@ -58,3 +62,10 @@ module _ (l : ℕ) (image : List ℕ) (at : ℕ) (t : ok (read_expression l imag
   pub is_select : (k ≡ 7 → ⊥) → (k ≡ 8 → ⊥) → (k ≡ 9 → ⊥) → (k ≡ 10 → ⊥) → (k ≡ 11 → ⊥) → (k ≡ 12 → ⊥) → (k ≡ 13 → ⊥) → k ≡ 14
   is_select n7 n8 n9 n10 n11 n12 n13 =
       hk ∙ last_kind l image at t (not_told hk n7) (not_told hk n8) (not_told hk n9) (not_told hk n10) (not_told hk n11) (not_told hk n12) (not_told hk n13)
+
+-- the word where an expression was read has the kind of one
+pub kind_there : (l : ℕ) (image : List ℕ) (at w : ℕ) → ExpressionRead l image at → w ≡ get_or image at 0 → (6 < kind_of w) × (kind_of w < 15)
+kind_there l image at w r h =
+    rw h (outside (kind_of (get_or image at 0))
+    (λ x. let e = last_kind l image at r.read (λ y. omega arith) (λ y. omega arith) (λ y. omega arith) (λ y. omega arith) (λ y. omega arith) (λ y. omega arith) (λ y. omega arith) in omega arith)
+    (λ x. let e = last_kind l image at r.read (λ y. omega arith) (λ y. omega arith) (λ y. omega arith) (λ y. omega arith) (λ y. omega arith) (λ y. omega arith) (λ y. omega arith) in omega arith))

@@ -11,7 +11,7 @@ use Rattle.laws.specs.Places.{expression_after, expression_within}
 use Rattle.laws.specs.ExpressionInversion.{open_expression, open_constant, open_raw, open_boolean, open_variable}
 use Rattle.laws.specs.ExpressionInversion.{open_cell, open_unary, open_binary, open_select}
 use Rattle.image_words.specs.Read.{PairRead, arguments_at}
-use Rattle.image_words.specs.Parts.{pair_got}
+use Rattle.image_words.specs.Parts.{expression_got, pair_got, kind_there}
 use Rattle.image_words.specs.StatementParts.{no_argument, first_argument}
 
 -- the number of operands of an expression, and of its own words, by its kind
@@ -49,6 +49,11 @@ row_first (more {n} l e m q r) h = let z : suc n - 1 ≡ n = omega arith in (l, 
 pub row_within : {image : List ℕ} {n a b : ℕ} → Row image n a b → 0 < n → a < length image
 row_within {image} {n} {a} r h =
     let (l, e, m, q, s) = row_first r h in (open_expression l image a (ok_of _ e m q)).1
+
+-- its word has the kind of an expression
+pub row_kind : {image : List ℕ} {n a b : ℕ} → Row image n a b → 0 < n → (w : ℕ) → w ≡ get_or image a 0 → (6 < kind_of w) × (kind_of w < 15)
+row_kind {image} {n} {a} r h w e =
+    let (l, x, m, q, s) = row_first r h in kind_there l image a w (expression_got l image a x m q) e
 
 -- each has a word, and the last ends within the image
 pub row_bound : {image : List ℕ} {n a b : ℕ} → Row image n a b → (n + a ≤ b) × (0 < n → b ≤ length image)

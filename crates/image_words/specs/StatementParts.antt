@@ -1,6 +1,6 @@
 -- The parts of a statement or a block that was read were read too, each where the one before it ends; op is the
 -- statement's. Assumes nothing.
-use Rattle.std.specs.Prelude.{ℕ, zero, suc, ◌+◌, ◌-◌, ◌<◌, true, List, [], ◌∷◌, ◌≡◌, get_or}
+use Rattle.std.specs.Prelude.{ℕ, zero, suc, ◌+◌, ◌-◌, ◌<◌, ◌≤◌, true, List, [], ◌∷◌, ◌≡◌, get_or}
 use Rattle.std.proofs.Common.{ap, ◌∙◌, arith}
 use Rattle.definitions.specs.Image.{payload_of, op_of, called_of, Expression, Statement, Block, done, sequence}
 use Rattle.definitions.specs.Reading.{got, read_expression, read_statement, read_block}
@@ -10,6 +10,10 @@ use Rattle.laws.specs.StatementInversion.{open_statement, open_block, open_none,
 use Rattle.laws.specs.StatementInversion.{open_if, open_for, open_return, open_call, last_op}
 use Rattle.image_words.specs.Read.{ExpressionRead, PairRead, StatementRead, BlockRead, arguments_at, statements_at}
 use Rattle.image_words.specs.Parts.{told, not_told, expression_got, pair_got}
+
+-- a number that is not above 5
+below : (n : ℕ) → (6 ≤ n → ⊥) → n < 6
+below n h = omega arith
 
 -- ---- the values of a call that are left
 
@@ -128,3 +132,8 @@ module _ (l : ℕ) (params : List ℕ) (me : ℕ) (image : List ℕ) (at : ℕ) 
   pub is_call : (op ≡ 0 → ⊥) → (op ≡ 1 → ⊥) → (op ≡ 2 → ⊥) → (op ≡ 3 → ⊥) → (op ≡ 4 → ⊥) → op ≡ 5
   is_call n0 n1 n2 n3 n4 =
       ho ∙ last_op l params me image at t (not_told ho n0) (not_told ho n1) (not_told ho n2) (not_told ho n3) (not_told ho n4)
+
+-- the word where a statement was read has one of the six ops
+pub op_there : (l : ℕ) (params : List ℕ) (me : ℕ) (image : List ℕ) (at w : ℕ) → StatementRead l params me image at → w ≡ get_or image at 0 → op_of w < 6
+op_there l params me image at w r h =
+    rw h (below (op_of (get_or image at 0)) (λ x. let e = last_op l params me image at r.read (λ y. omega arith) (λ y. omega arith) (λ y. omega arith) (λ y. omega arith) (λ y. omega arith) in omega arith))

@@ -22,6 +22,19 @@ const HIGH_UNIT: u32 = 0x1_0000;
 // Of a payload: "arrays × 256", "parameters × 256", "procedure × 256".
 const MIDDLE_UNIT: u32 = 0x100;
 
+// The kinds of the words that begin no expression.
+const HEADER: u32 = 1;
+
+const ARRAY: u32 = 2;
+
+const PROCEDURE: u32 = 3;
+
+const TYPE: u32 = 4;
+
+const BLOCK: u32 = 5;
+
+const STATEMENT: u32 = 6;
+
 pub fn kind(w: u32) -> u32
     ensures { result ≡ kind_of w }
 {

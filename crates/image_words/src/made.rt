@@ -3,7 +3,8 @@ ghost use Rattle.std.specs.Prelude.{◌≡◌, ◌+◌, ◌*◌, ◌≤◌, ◌<
 ghost use Rattle.definitions.specs.Encoding.{word_with, statement_word_with};
 ghost use Rattle.definitions.specs.Compiling.{secret_of};
 
-use super::{HIGH_UNIT, KIND_UNIT, MIDDLE_UNIT};
+use super::ops::Op;
+use super::{BLOCK, HEADER, HIGH_UNIT, KIND_UNIT, MIDDLE_UNIT, PROCEDURE, STATEMENT, TYPE};
 
 // Words without a field to fill in.
 pub const RETURN_WORD: u32 = 0x6004_0000;
@@ -37,21 +38,21 @@ pub fn statement_with(op: u32, target: u32) -> u32
     requires { (op < 6) × (target ≤ 1000000) }
     ensures { result ≡ statement_word_with op target }
 {
-    6 * KIND_UNIT + (op * HIGH_UNIT + target)
+    STATEMENT * KIND_UNIT + (op * HIGH_UNIT + target)
 }
 
 pub fn call_with(called: u32, res: u32) -> u32
     requires { (called < 256) × (res ≤ 1000000) }
     ensures { result ≡ statement_word_with 5 (called * 256 + res) }
 {
-    6 * KIND_UNIT + (5 * HIGH_UNIT + (called * MIDDLE_UNIT + res))
+    STATEMENT * KIND_UNIT + (Op::Call as u32 * HIGH_UNIT + (called * MIDDLE_UNIT + res))
 }
 
 pub fn block_with(count: u32) -> u32
     requires { count < 268435456 }
     ensures { result ≡ word_with 5 count }
 {
-    5 * KIND_UNIT + count
+    BLOCK * KIND_UNIT + count
 }
 
 // The word of an open procedure.
@@ -59,14 +60,14 @@ pub fn procedure_with(parameters: u32, locals: u32) -> u32
     requires { (parameters < 256) × (locals ≤ 1000000) }
     ensures { result ≡ word_with 3 (0 * 65536 + parameters * 256 + locals) }
 {
-    3 * KIND_UNIT + (parameters * MIDDLE_UNIT + locals)
+    PROCEDURE * KIND_UNIT + (parameters * MIDDLE_UNIT + locals)
 }
 
 pub fn header_with(form: u32, arrays: u32, procedures: u32) -> u32
     requires { (form < 2) × (arrays < 256) × (procedures < 256) }
     ensures { result ≡ word_with 1 (form * 65536 + arrays * 256 + procedures) }
 {
-    KIND_UNIT + (form * HIGH_UNIT + arrays * MIDDLE_UNIT + procedures)
+    HEADER * KIND_UNIT + (form * HIGH_UNIT + arrays * MIDDLE_UNIT + procedures)
 }
 
 // The type word of a secret of a sort.
@@ -74,5 +75,5 @@ pub fn secret_of(sort: u32) -> u32
     requires { sort < 2 }
     ensures { result ≡ secret_of sort }
 {
-    4 * KIND_UNIT + 2 * sort + 1
+    TYPE * KIND_UNIT + 2 * sort + 1
 }

@@ -1,26 +1,25 @@
 -- What each return of the functions over a sum's operands gives. Assumes nothing.
-use Prim.Native.Nat.{ℕ, ◌+◌, ◌<◌}
-use mathlib.Core.Bool.{Bool, true, false, ◌&&◌, ◌||◌, false≢true, true≢false}
+use Prim.Native.Nat.{ℕ, ◌+◌}
+use mathlib.Core.Bool.{Bool, true, false, ◌||◌}
 use mathlib.Core.List.{List}
-use mathlib.Core.Path.{◌≡◌, refl, sym, ◌∙◌}
-use borrow.Author.Tests.{ltb-true, ltb-false, ne_eqb}
-use lib.Dec.{ltb, leb, eqb}
-use lib.ListN.{length, get_or, get_or-eq_default}
+use mathlib.Core.Path.{◌≡◌, refl, sym}
+use borrow.Author.Tests.{ne_eqb}
+use lib.Dec.{leb, eqb}
+use lib.ListN.{get_or}
 use Rattle.definitions.specs.declared.ConstantLoop.{ConstantLoop}
 use Rattle.definitions.specs.Image.{kind_of, payload_of}
 use Rattle.definitions.specs.Labels.{unbounded, sum_below}
-use Rattle.laws.specs.Tests.{and_left, and_right}
-use Rattle.image_words.specs.Parts.{told, not_told}
+use Rattle.laws.specs.Tests.{and_false}
 use Rattle.labels.specs.Operand.{constant_at, value_at, behind_at, sum_at, either_sum_at, addition_at}
 
-module _ (image : List ℕ) (at w k : ℕ) (hw : w ≡ get_or image at 0) (hk : k ≡ kind_of w) where
-  pub behind_raw : k ≡ 8 → at + 2 ≡ behind_at image at
+module _ (image : List ℕ) (at : ℕ) where
+  pub behind_raw : eqb (kind_of (get_or image at 0)) 8 ≡ true → at + 2 ≡ behind_at image at
   unfolding behind_at
-  behind_raw e = rw (← hw, told hk e)
+  behind_raw e = rw e
 
-  pub behind_one : (k ≡ 8 → ⊥) → at + 1 ≡ behind_at image at
+  pub behind_one : eqb (kind_of (get_or image at 0)) 8 ≡ false → at + 1 ≡ behind_at image at
   unfolding behind_at
-  behind_one n = rw (← hw, ne_eqb _ _ (not_told hk n))
+  behind_one e = rw e
 
 module _ (l : ConstantLoop) (c size : ℕ) where
   pub no_pass : l.passes ≡ 0 → true ≡ sum_below l c size
@@ -29,30 +28,21 @@ module _ (l : ConstantLoop) (c size : ℕ) where
   pub whole_sum : (l.passes ≡ 0 → ⊥) → (u v s : ℕ) → u ≡ l.upper → v ≡ c → s ≡ size → leb (u + v) s ≡ sum_below l c size
   whole_sum n u v s hu hv hs = rw (ne_eqb _ _ n, hu, hv, hs)
 
-module _ (image : List ℕ) (c k : ℕ) (b : Bool) (hb : b ≡ constant_at image c) where
-  -- a constant stands at a word of the image
-  pub constant_within : (eqb k 10 && b) ≡ true → c < length image
-  unfolding constant_at
-  constant_within t = go (ltb c (length image)) refl
-    where
-      go : (s : Bool) → ltb c (length image) ≡ s → c < length image
-      go true e = ltb-true c (length image) e
-      go false e = absurd (false≢true (rw (get_or-eq_default image 0 (ltb-false c (length image) e)) at (sym hb ∙ and_right (eqb k 10) b t)))
+module _ (image : List ℕ) (bounds : List ConstantLoop) (size i c : ℕ) where
+  pub sum_taken : (v w p : ℕ) (l : ConstantLoop) (k r : Bool) → true ≡ constant_at image c → v ≡ value_at image c → w ≡ get_or image i 0
+      → k ≡ eqb (kind_of w) 10 → k ≡ true → p ≡ payload_of w → l ≡ get_or bounds p unbounded → r ≡ sum_below l v size → r ≡ sum_at image bounds size i c
+  unfolding sum_at
+  sum_taken v w p l k r t hv hw hk e hp hl hr = rw (← hw, ← hk, e, ← t, ← hp, ← hl, ← hv, hr)
 
-  module _ (bounds : List ConstantLoop) (size i w : ℕ) (hw : w ≡ get_or image i 0) (hk : k ≡ kind_of w) where
-    pub sum_taken : (eqb k 10 && b) ≡ true → (p : ℕ) → p ≡ payload_of w → (l : ConstantLoop) → l ≡ get_or bounds p unbounded → (v : ℕ) → v ≡ value_at image c
-        → (r : Bool) → r ≡ sum_below l v size → r ≡ sum_at image bounds size i c
-    unfolding sum_at
-    sum_taken t p hp l hl v hv r hr = rw (← hw, ← hk, ← hb, and_left (eqb k 10) b t, and_right (eqb k 10) b t, ← hp, ← hl, ← hv, hr)
+  pub sum_no_variable : eqb (kind_of (get_or image i 0)) 10 ≡ false → false ≡ sum_at image bounds size i c
+  unfolding sum_at
+  sum_no_variable k = rw k
 
-    pub sum_none : (eqb k 10 && b) ≡ false → false ≡ sum_at image bounds size i c
-    unfolding sum_at
-    sum_none t = rw (← hw, ← hk, ← hb) (go (eqb k 10) b (sum_below (get_or bounds (payload_of w) unbounded) (value_at image c) size) t)
-      where
-        go : (x y z : Bool) → (x && y) ≡ false → false ≡ (x && (y && z))
-        go false y z t = refl
-        go true false z t = refl
-        go true true z t = absurd (true≢false t)
+  pub sum_no_constant : false ≡ constant_at image c → false ≡ sum_at image bounds size i c
+  unfolding sum_at
+  sum_no_constant t = rw (← t) (sym (and_false (eqb (kind_of (get_or image i 0)) 10) false refl))
+
+pub ruleset sums = (sum_taken, sum_no_variable, sum_no_constant)
 
 module _ (image : List ℕ) (bounds : List ConstantLoop) (size at p : ℕ) (hp : p ≡ payload_of (get_or image at 0)) where
   pub addition : p ≡ 0 → (n : ℕ) → n ≡ behind_at image (at + 1) → (a b : Bool) → a ≡ sum_at image bounds size (at + 1) n → b ≡ sum_at image bounds size n (at + 1)

@@ -6,21 +6,21 @@ use Rattle.definitions.specs.Image.{Statement, Block, Procedure}
 use Rattle.definitions.specs.Reading.{Parse, got, refused}
 use Rattle.definitions.specs.Faults.{least}
 use Rattle.definitions.specs.Labels.{rc_after, rc_after_block, statement_label_faults, block_label_faults}
-use Rattle.labels.specs.declared.Scope.{Scope}
+use Rattle.labels.specs.Cursors.{ending}
 use Rattle.labels.specs.declared.Walked.{Walked}
 
 abbrev pub walk : Bool → ℕ → Fault → Walked
-walk r n b = record { rc = r; next = n; best = b }
+walk r n b = record { rc = r; cursor = ending n b }
 
--- over the image's procedures and array words, the type words of the variables, the bounds, the procedure whose body it is, pc and rc
-module _ (ps : List Procedure) (arrays types : List ℕ) (bounds : List ConstantLoop) (scope : Scope) (pc rc : Bool) where
+-- over the image's procedures and array words, the type words of the variables, the bounds, the image's form, the type word of the result, pc and rc
+module _ (ps : List Procedure) (arrays types : List ℕ) (bounds : List ConstantLoop) (form result : ℕ) (pc rc : Bool) where
   unfoldable pub walked : ℕ → Fault → Parse Statement → Walked
   walked at best (got s n) =
       walk (rc_after types arrays pc rc s) n
-      (least best (statement_label_faults scope.form ps arrays types scope.result bounds pc rc at s))
+      (least best (statement_label_faults form ps arrays types result bounds pc rc at s))
   walked at best (refused n p) = walk rc 0 best
 
   unfoldable pub walked_block : Fault → Parse Block → Walked
   walked_block best (got b n) =
-      walk (rc_after_block types arrays pc rc b) n (least best (block_label_faults scope.form ps arrays types scope.result bounds pc rc b))
+      walk (rc_after_block types arrays pc rc b) n (least best (block_label_faults form ps arrays types result bounds pc rc b))
   walked_block best (refused n p) = walk rc 0 best

@@ -8,18 +8,15 @@ use Rattle.definitions.specs.Reading.{Parse, got, refused}
 use Rattle.definitions.specs.Faults.{least, fault_if}
 use Rattle.definitions.specs.Labels.{secret_in, unbounded, loop_of, label_faults, argument_label_faults, loop_bound_faults}
 use Rattle.labels.specs.Operand.{value_at, bounded_at}
+use Rattle.labels.specs.Cursors.{ending}
+use Rattle.labels.specs.declared.Cursor.{Cursor}
 use Rattle.labels.specs.declared.Labelled.{Labelled}
-use Rattle.labels.specs.declared.Ended.{Ended}
-use Rattle.labels.specs.declared.Limited.{Limited}
 
 abbrev pub label : Bool → ℕ → Fault → Labelled
-label s n b = record { secret = s; next = n; best = b }
+label s n b = record { secret = s; cursor = ending n b }
 
-abbrev pub ending : ℕ → Fault → Ended
-ending n b = record { next = n; best = b }
-
-abbrev pub limiting : ConstantLoop → ℕ → Fault → Limited
-limiting i n b = record { inside = i; next = n; best = b }
+abbrev pub limiting : ConstantLoop → ℕ → Fault → ConstantLoop × Cursor
+limiting i n b = (i, ending n b)
 
 -- an expression: whether it is secret, the place after it, the lowest fault
 unfoldable pub labelled : List ℕ → List ℕ → List ConstantLoop → Bool → Fault → Parse Expression → Labelled
@@ -28,11 +25,11 @@ labelled types arrays bounds context best (refused n p) = label false 0 best
 
 -- the second of two expressions behind the first
 abbrev pub joined : Labelled → Labelled → Labelled
-joined a b = label (a.secret || b.secret) b.next b.best
+joined a b = label (a.secret || b.secret) b.cursor.at b.cursor.best
 
 unfoldable pub labelled_two : List ℕ → List ℕ → List ConstantLoop → Bool → Fault → Parse Expression → Parse Expression → Labelled
 labelled_two types arrays bounds context best x y =
-    joined (labelled types arrays bounds context best x) (labelled types arrays bounds context (labelled types arrays bounds context best x).best y)
+    joined (labelled types arrays bounds context best x) (labelled types arrays bounds context (labelled types arrays bounds context best x).cursor.best y)
 
 -- the lowest fault after an index at a place was judged
 unfoldable pub index_noted : List ℕ → List ℕ → List ConstantLoop → Bool → ℕ → ℕ → Bool → Fault → Fault
@@ -48,7 +45,7 @@ operator_noted image publics context left leftSecret right rightSecret best =
 
 module _ (types arrays : List ℕ) (bounds : List ConstantLoop) (context : Bool) where
   -- the arguments of a call from number k on, by the type words of the called procedure
-  unfoldable pub argued_all : List ℕ → ℕ → Fault → Parse (List Expression) → Ended
+  unfoldable pub argued_all : List ℕ → ℕ → Fault → Parse (List Expression) → Cursor
   argued_all callee k best (got es n) = ending n (least best (argument_label_faults types arrays bounds context callee k es))
   argued_all callee k best (refused n p) = ending 0 best
 
@@ -58,7 +55,7 @@ module _ (types arrays : List ℕ) (bounds : List ConstantLoop) (context : Bool)
   bounding best (refused n p) = label false 0 best
 
   -- both bounds of a for, and the for that is around its variable in its block
-  unfoldable pub limited : Fault → Parse Expression → Parse Expression → Limited
+  unfoldable pub limited : Fault → Parse Expression → Parse Expression → ConstantLoop × Cursor
   limited best (got f n) (got t m) =
       limiting (loop_of f t) m
       (least best (loop_bound_faults types arrays bounds context f ++ loop_bound_faults types arrays bounds context t))

@@ -1,38 +1,63 @@
-// The enclosing for over each variable, where its bounds are constants: two words each, the number of its passes and its upper bound.
-ghost use Rattle.std.specs.Prelude.{◌≡◌, get_or, set};
+// The enclosing for over each variable, where its bounds are constants.
+ghost use Rattle.std.specs.Prelude.{◌≡◌, get_or, set, replicate};
+ghost use Rattle.std.specs.Option.{unwrap_or};
 ghost use Rattle.definitions.specs.Labels.{unbounded};
 ghost use Rattle.labels.specs.Enclosing.{bounds_in};
 
-use super::UNBOUNDED;
 use definitions::ConstantLoop;
 use image_words::lists::wide;
 
-// The for around a variable; where there is none, passes and bound above any length.
-#[tactic(auto, using(crate::proofs::EnclosingRules::loop_there, crate::proofs::EnclosingRules::loop_past))]
-pub fn loop_around(bounds: &[u32], x: u32) -> ConstantLoop
-    ensures { result ≡ get_or (bounds_in bounds.now) x unbounded }
-{
-    let i = wide(x) * 2;
-    if i + 1 < bounds.len() {
-        return ConstantLoop {
-            passes: bounds[i],
-            upper: bounds[i + 1],
-        };
-    }
-    ConstantLoop {
-        passes: UNBOUNDED,
-        upper: UNBOUNDED,
-    }
+// The numbers that a variable can have.
+const VARIABLES: usize = 256;
+
+// What stands for no for: passes and bound above any length.
+const UNBOUNDED: ConstantLoop = ConstantLoop {
+    passes: u32::MAX,
+    upper: u32::MAX,
+};
+
+#[derive(Clone, Copy)]
+pub struct Enclosing {
+    pub loops: [Option<ConstantLoop>; VARIABLES],
 }
 
-// Puts a for around a variable.
-#[tactic(auto, using(crate::proofs::EnclosingRules::loop_put, crate::proofs::EnclosingRules::loop_kept))]
-pub fn put_loop(bounds: &mut [u32], x: u32, inside: ConstantLoop)
-    ensures { bounds_in bounds.new ≡ set (bounds_in bounds.old) x inside }
-{
-    let i = wide(x) * 2;
-    if i + 1 < bounds.len() {
-        bounds[i] = inside.passes;
-        bounds[i + 1] = inside.upper;
+impl Enclosing {
+    // No for stands around the body of a procedure.
+    #[tactic(auto, using(crate::specs::Enclosing::bounds_none))]
+    pub fn none() -> Enclosing
+        ensures { bounds_in result.loops ≡ replicate 256 unbounded }
+    {
+        Enclosing {
+            loops: [None; VARIABLES],
+        }
+    }
+
+    // The for around a variable.
+    #[tactic(auto, using(crate::proofs::EnclosingRules::loop_there, crate::proofs::EnclosingRules::loop_past))]
+    pub fn around(&self, x: u32) -> ConstantLoop
+        ensures { result ≡ get_or (bounds_in self.now.loops) x unbounded }
+    {
+        self.loops
+            .get(wide(x))
+            .copied()
+            .flatten()
+            .unwrap_or(UNBOUNDED)
+    }
+
+    // Puts a for around a variable, or none, and tells what was around it. (Not by `get_mut`, whose contract tells the length of the list and no
+    // element.)
+    #[tactic(auto, using(crate::proofs::EnclosingRules::loop_there, crate::proofs::EnclosingRules::loop_past, crate::proofs::EnclosingRules::loop_put, crate::proofs::EnclosingRules::loop_kept))]
+    pub fn put(&mut self, x: u32, inside: Option<ConstantLoop>) -> Option<ConstantLoop>
+        ensures before { unwrap_or result unbounded ≡ get_or (bounds_in self.old.loops) x unbounded }
+        ensures after { bounds_in self.new.loops ≡ set (bounds_in self.old.loops) x (unwrap_or inside unbounded) }
+    {
+        let i = wide(x);
+        let loops: &mut [Option<ConstantLoop>] = &mut self.loops;
+        if i < loops.len() {
+            let before = loops[i];
+            loops[i] = inside;
+            return before;
+        }
+        None
     }
 }

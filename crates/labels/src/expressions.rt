@@ -1,231 +1,171 @@
 // The label of an expression, and the lowest of its faults.
-ghost use Rattle.std.specs.Prelude.{◌≡◌, ◌<◌, get_or, length};
-ghost use Rattle.definitions.specs.Image.{kind_of};
+ghost use Rattle.std.specs.Prelude.{◌≡◌, ◌<◌, length};
 ghost use Rattle.definitions.specs.Reading.{read_expression};
 ghost use Rattle.laws.specs.Parses.{end_of};
-ghost use Rattle.image_words.specs.Read.{ExpressionRead, PairRead};
+ghost use Rattle.image_words.specs.Read.{PairRead};
 ghost use Rattle.tables.specs.Table.{arrays_in};
+ghost use Rattle.operators.specs.Numbers.{publics_number};
+ghost use Rattle.labels.specs.Cursors.{ending};
 ghost use Rattle.labels.specs.Enclosing.{bounds_in};
-ghost use Rattle.labels.specs.Walk.{labelled, labelled_two, index_noted, operator_noted};
+ghost use Rattle.labels.specs.Walk.{labelled_two, index_noted, operator_noted};
+ghost use Rattle.labels.specs.Places.{ExpressionHere, kind_here, expression_at};
 
-use super::operands::{bounded_at, value_at};
-use super::{BOUNDS, Labelled};
+use super::operands::{bounded_at, constant_at};
+use super::{Around, Cursor, Labelled};
 use contexts::{secret_array, secret_variable};
-use definitions::Fault;
-use image_words::{array_length, kind, kinds, payload};
-use tables::SIZE;
+use image_words::kinds::Kind;
+use image_words::{array_length, kinds, payload};
+use operators::{Operator, PublicOperands};
+use reasons::Reason;
 
-// The faults of an index at a place: it has to be public, and bounded by the array's length in a secret context.
+// The faults of an index at a place, behind which the cursor stands: it has to be public, and bounded by the array's length in a secret context.
 #[tactic(auto, using(crate::proofs::OperandRules::index_noted_lem))]
-pub fn note_index(
-    image: &[u32],
-    table: &[u32; SIZE],
-    bounds: &[u32; BOUNDS],
-    context: bool,
-    a: u32,
-    at: usize,
-    secret: bool,
-    best: Fault,
-) -> Fault
-    requires { at < length image.now }
-    ensures { result ≡ index_noted image.now (arrays_in table.now) (bounds_in bounds.now) context a at secret best }
+pub fn note_index(around: Around<'_>, a: u32, at: usize, index: Labelled) -> Cursor
+    requires { at < length around.procedure.program.image.now }
+    ensures { result ≡ ending index.cursor.at (index_noted around.entry.procedure.program.image.now (arrays_in around.entry.procedure.program.table.now)
+        (bounds_in around.entry.enclosing.now.loops) around.entry.secret a at index.secret index.cursor.best) }
 {
-    let found = faults::note(best, secret, 10, at);
-    let size = array_length(tables::array(table, a));
-    let bounded = bounded_at(image, bounds, size, at);
-    faults::note(found, context & !bounded, 11, at)
+    let program = around.procedure.program;
+    let public = index
+        .cursor
+        .noted(index.secret, Reason::SecretWherePublic, at);
+    let size = array_length(tables::array(program.table, a));
+    let bounded = bounded_at(program.image, around.enclosing, size, at);
+    public.noted(around.secret & !bounded, Reason::Unbounded, at)
 }
 
-// The faults of an operator's operands: which have to be public, and what a divisor has to be in a secret context.
+// The faults of an operator's operands, of which the left one stands at a place: which have to be public, and what a divisor has to be in
+// a secret context.
 #[tactic(auto, using(crate::proofs::OperandRules::operator_noted_lem))]
 fn note_operator(
-    image: &[u32],
-    publics: u32,
-    context: bool,
-    left: usize,
-    left_secret: bool,
-    right: usize,
-    right_secret: bool,
-    best: Fault,
-) -> Fault
-    requires { right < length image.now }
-    ensures { result ≡ operator_noted image.now publics context left left_secret right right_secret best }
+    around: Around<'_>,
+    publics: PublicOperands,
+    at: usize,
+    left: Labelled,
+    right: Labelled,
+) -> Cursor
+    requires { left.cursor.at < length around.procedure.program.image.now }
+    ensures { result ≡ ending right.cursor.at (operator_noted around.entry.procedure.program.image.now (publics_number publics) around.entry.secret at left.secret
+        left.cursor.at right.secret right.cursor.best) }
 {
-    let divisor = value_at(image, right);
-    let first = faults::note(best, (publics == 2) & left_secret, 10, left);
-    let second = faults::note(first, (1 <= publics) & right_secret, 10, right);
-    let unbounded = context & ((publics == 2) & (divisor == 0));
-    faults::note(second, unbounded, 11, right)
+    let place = left.cursor.at;
+    let divisor = constant_at(around.procedure.program.image, place).unwrap_or(0);
+    let both = publics == PublicOperands::Both;
+    let some = publics != PublicOperands::Neither;
+    let first = right
+        .cursor
+        .noted(both & left.secret, Reason::SecretWherePublic, at);
+    let second = first.noted(some & right.secret, Reason::SecretWherePublic, place);
+    let unbounded = around.secret & (both & (divisor == 0));
+    second.noted(unbounded, Reason::Unbounded, place)
 }
 
 // An expression, by the kind of its first word.
 #[cycle(parts)]
-pub fn label_expression(
-    image: &[u32],
-    table: &[u32; SIZE],
-    types: &[u32],
-    bounds: &[u32; BOUNDS],
-    context: bool,
-    at: usize,
-    level: u32,
-    best: Fault,
-) -> Labelled
-    requires { ExpressionRead level image.now at }
-    ensures { result ≡ labelled types.now (arrays_in table.now) (bounds_in bounds.now) context best (read_expression level image.now at) }
+#[tactic(auto, using(crate::proofs::ExpressionRules::fine, crate::proofs::ExpressionRules::labels))]
+pub fn label_expression(around: Around<'_>, cursor: Cursor, level: u32) -> Labelled
+    requires { ExpressionHere around cursor level }
+    ensures { result ≡ expression_at around.entry cursor level }
 {
-    let w = image[at];
-    let k = kind(w);
-    if k == kinds::CONSTANT {
-        return Labelled {
+    let w = around.procedure.program.image[cursor.at];
+    let operand = Cursor {
+        at: cursor.at + 1,
+        ..cursor
+    };
+    match kinds::of(w) {
+        Kind::Constant | Kind::Boolean => Labelled {
             secret: false,
-            next: at + 1,
-            best,
-        };
-    }
-    if k == kinds::RAW_CONSTANT {
-        return Labelled {
+            cursor: operand,
+        },
+        Kind::RawConstant => Labelled {
             secret: false,
-            next: at + 1 + 1,
-            best,
-        };
+            cursor: Cursor {
+                at: cursor.at + 1 + 1,
+                ..cursor
+            },
+        },
+        Kind::Variable => Labelled {
+            secret: secret_variable(around.procedure.types, payload(w)),
+            cursor: operand,
+        },
+        Kind::Cell => label_cell(around, cursor, level),
+        Kind::Unary => label_expression(around, operand, level - 1),
+        Kind::Binary => label_binary(around, cursor, level),
+        Kind::Select => label_select(around, cursor, level),
     }
-    if k == kinds::BOOLEAN {
-        return Labelled {
-            secret: false,
-            next: at + 1,
-            best,
-        };
-    }
-    if k == kinds::VARIABLE {
-        let secret = secret_variable(types, payload(w));
-        return Labelled {
-            secret,
-            next: at + 1,
-            best,
-        };
-    }
-    if k == kinds::CELL {
-        return label_cell(image, table, types, bounds, context, at, level, best);
-    }
-    if k == kinds::UNARY {
-        let inner = level - 1;
-        return label_expression(image, table, types, bounds, context, at + 1, inner, best);
-    }
-    if k == kinds::BINARY {
-        return label_binary(image, table, types, bounds, context, at, level, best);
-    }
-    label_select(image, table, types, bounds, context, at, level, best)
 }
 
 #[cycle(parts)]
-fn label_cell(
-    image: &[u32],
-    table: &[u32; SIZE],
-    types: &[u32],
-    bounds: &[u32; BOUNDS],
-    context: bool,
-    at: usize,
-    level: u32,
-    best: Fault,
-) -> Labelled
-    requires { ExpressionRead level image.now at × (kind_of (get_or image.now at 0) ≡ 11) }
-    ensures { result ≡ labelled types.now (arrays_in table.now) (bounds_in bounds.now) context best (read_expression level image.now at) }
+#[tactic(auto, using(crate::proofs::ExpressionRules::fine, crate::proofs::ExpressionRules::labels))]
+fn label_cell(around: Around<'_>, cursor: Cursor, level: u32) -> Labelled
+    requires { ExpressionHere around cursor level × (kind_here around cursor ≡ 11) }
+    ensures { result ≡ expression_at around.entry cursor level }
 {
-    let a = payload(image[at]);
-    let inner = level - 1;
-    let i = label_expression(image, table, types, bounds, context, at + 1, inner, best);
-    let judged = note_index(image, table, bounds, context, a, at + 1, i.secret, i.best);
-    let array = secret_array(table, a);
+    let a = payload(around.procedure.program.image[cursor.at]);
+    let operand = Cursor {
+        at: cursor.at + 1,
+        ..cursor
+    };
+    let i = label_expression(around, operand, level - 1);
+    let judged = note_index(around, a, operand.at, i);
     Labelled {
-        secret: array | i.secret,
-        next: i.next,
-        best: judged,
+        secret: secret_array(around.procedure.program.table, a) | i.secret,
+        cursor: judged,
     }
 }
 
 #[cycle(parts)]
-fn label_binary(
-    image: &[u32],
-    table: &[u32; SIZE],
-    types: &[u32],
-    bounds: &[u32; BOUNDS],
-    context: bool,
-    at: usize,
-    level: u32,
-    best: Fault,
-) -> Labelled
-    requires { ExpressionRead level image.now at × (kind_of (get_or image.now at 0) ≡ 13) }
-    ensures { result ≡ labelled types.now (arrays_in table.now) (bounds_in bounds.now) context best (read_expression level image.now at) }
+#[tactic(auto, using(crate::proofs::ExpressionRules::fine, crate::proofs::ExpressionRules::labels))]
+fn label_binary(around: Around<'_>, cursor: Cursor, level: u32) -> Labelled
+    requires { ExpressionHere around cursor level × (kind_here around cursor ≡ 13) }
+    ensures { result ≡ expression_at around.entry cursor level }
 {
-    let inner = level - 1;
-    let publics = operators::public_operands(payload(image[at]));
-    let e = label_expression(image, table, types, bounds, context, at + 1, inner, best);
-    let right = e.next;
-    let f = label_expression(image, table, types, bounds, context, right, inner, e.best);
-    let judged = note_operator(
-        image,
-        publics,
-        context,
-        at + 1,
-        e.secret,
-        right,
-        f.secret,
-        f.best,
-    );
+    let operator = Operator::of(payload(around.procedure.program.image[cursor.at]));
+    let operands = Cursor {
+        at: cursor.at + 1,
+        ..cursor
+    };
+    let e = label_expression(around, operands, level - 1);
+    let f = label_expression(around, e.cursor, level - 1);
+    let judged = note_operator(around, operator.publics(), operands.at, e, f);
     Labelled {
         secret: e.secret | f.secret,
-        next: f.next,
-        best: judged,
+        cursor: judged,
     }
 }
 
 #[cycle(parts)]
-fn label_select(
-    image: &[u32],
-    table: &[u32; SIZE],
-    types: &[u32],
-    bounds: &[u32; BOUNDS],
-    context: bool,
-    at: usize,
-    level: u32,
-    best: Fault,
-) -> Labelled
-    requires { ExpressionRead level image.now at × (kind_of (get_or image.now at 0) ≡ 14) }
-    ensures { result ≡ labelled types.now (arrays_in table.now) (bounds_in bounds.now) context best (read_expression level image.now at) }
+#[tactic(auto, using(crate::proofs::ExpressionRules::fine, crate::proofs::ExpressionRules::labels))]
+fn label_select(around: Around<'_>, cursor: Cursor, level: u32) -> Labelled
+    requires { ExpressionHere around cursor level × (kind_here around cursor ≡ 14) }
+    ensures { result ≡ expression_at around.entry cursor level }
 {
-    let inner = level - 1;
-    let c = label_expression(image, table, types, bounds, context, at + 1, inner, best);
-    let v = label_two(image, table, types, bounds, context, c.next, inner, c.best);
-    let found = v.best;
+    let condition = Cursor {
+        at: cursor.at + 1,
+        ..cursor
+    };
+    let c = label_expression(around, condition, level - 1);
+    let v = label_two(around, c.cursor, level - 1);
     Labelled {
         secret: c.secret | v.secret,
-        next: v.next,
-        best: found,
+        cursor: v.cursor,
     }
 }
 
 // Two expressions, one behind the other.
 #[cycle(parts)]
-fn label_two(
-    image: &[u32],
-    table: &[u32; SIZE],
-    types: &[u32],
-    bounds: &[u32; BOUNDS],
-    context: bool,
-    at: usize,
-    level: u32,
-    best: Fault,
-) -> Labelled
-    requires { PairRead level image.now at }
-    ensures { result ≡ labelled_two types.now (arrays_in table.now) (bounds_in bounds.now) context best (read_expression level image.now at)
-        (read_expression level image.now (end_of (read_expression level image.now at))) }
+#[tactic(auto, using(crate::proofs::ExpressionRules::fine, crate::proofs::ExpressionRules::labels))]
+fn label_two(around: Around<'_>, cursor: Cursor, level: u32) -> Labelled
+    requires { PairRead level around.procedure.program.image.now cursor.at }
+    ensures { result ≡ labelled_two around.entry.procedure.types.now (arrays_in around.entry.procedure.program.table.now)
+        (bounds_in around.entry.enclosing.now.loops) around.entry.secret cursor.best
+        (read_expression level around.entry.procedure.program.image.now cursor.at)
+        (read_expression level around.entry.procedure.program.image.now (end_of (read_expression level around.entry.procedure.program.image.now cursor.at))) }
 {
-    let e = label_expression(image, table, types, bounds, context, at, level, best);
-    let f = label_expression(image, table, types, bounds, context, e.next, level, e.best);
-    let found = f.best;
+    let e = label_expression(around, cursor, level);
+    let f = label_expression(around, e.cursor, level);
     Labelled {
         secret: e.secret | f.secret,
-        next: f.next,
-        best: found,
+        cursor: f.cursor,
     }
 }

@@ -1,170 +1,171 @@
-// The statements that hold no block: assign, store, return, call. Each takes the statement's word at `at`.
-ghost use Rattle.std.specs.Prelude.{◌≡◌, true, get_or};
-ghost use Rattle.definitions.specs.Image.{op_of};
-ghost use Rattle.definitions.specs.Reading.{read_statement};
+// The statements that hold no block: assign, store, return, call. The cursor stands at the statement's word.
+ghost use Rattle.std.specs.Prelude.{◌≡◌, ◌<◌, true, get_or, length};
 ghost use Rattle.laws.specs.Parses.{ok};
-ghost use Rattle.laws.specs.ImageIn.{procedures_in};
-ghost use Rattle.image_words.specs.Read.{StatementRead, arguments_at};
+ghost use Rattle.laws.specs.ImageIn.{image_in};
+ghost use Rattle.image_words.specs.Read.{arguments_at};
 ghost use Rattle.tables.specs.Table.{arrays_in, params_in};
-ghost use Rattle.tables.specs.Looking.{Listed, procedure_in};
+ghost use Rattle.tables.specs.Looking.{procedure_in};
 ghost use Rattle.labels.specs.Enclosing.{bounds_in};
 ghost use Rattle.labels.specs.Walk.{argued_all};
-ghost use Rattle.labels.specs.Blocks.{walked};
+ghost use Rattle.labels.specs.Places.{StatementHere, op_here, statement_at};
 
+use super::enclosing::Enclosing;
 use super::expressions::{label_expression, note_index};
-use super::{BOUNDS, Ended, Scope, Walked};
+use super::{Around, Cursor, Walk, Walked};
 use contexts::{Context, secret_array, secret_variable};
-use definitions::Fault;
 use image_words::{called, result, target, type_secret};
-use tables::SIZE;
-use tables::signatures::{is_guarded, result_type, variable_type};
+use reasons::Reason;
 
+#[tactic(auto, using(crate::proofs::LeafRules::fine, crate::proofs::LeafRules::leaves))]
 pub fn label_assign(
-    image: &[u32],
-    table: &[u32; SIZE],
-    types: &[u32],
-    bounds: &[u32; BOUNDS],
-    scope: Scope,
+    walk: Walk<'_>,
+    enclosing: &Enclosing,
     context: Context,
-    at: usize,
+    cursor: Cursor,
     level: u32,
-    best: Fault,
 ) -> Walked
-    requires { StatementRead level (params_in table.now) scope.me image.now at × (op_of (get_or image.now at 0) ≡ 0) }
-    ensures { result ≡ walked (procedures_in image.now) (arrays_in table.now) types.now (bounds_in bounds.now) scope context.pc context.rc at best
-        (read_statement level (params_in table.now) scope.me image.now at) }
+    requires { StatementHere walk cursor level × (op_here walk cursor ≡ 0) }
+    ensures { result ≡ statement_at walk.entry (bounds_in enclosing.now.loops) context cursor level }
 {
     let secret = context.pc | context.rc;
-    let e = label_expression(image, table, types, bounds, secret, at + 1, level - 1, best);
-    let variable = secret_variable(types, target(image[at]));
-    let judged = faults::note(e.best, (e.secret | secret) & !variable, 9, at);
+    let around = Around {
+        procedure: walk.procedure,
+        enclosing,
+        secret,
+    };
+    let operand = Cursor {
+        at: cursor.at + 1,
+        ..cursor
+    };
+    let value = label_expression(around, operand, level - 1);
+    let variable = secret_variable(
+        walk.procedure.types,
+        target(walk.procedure.program.image[cursor.at]),
+    );
+    let leaks = (value.secret | secret) & !variable;
+    let judged = value.cursor.noted(leaks, Reason::Flow, cursor.at);
     Walked {
         rc: context.rc,
-        next: e.next,
-        best: judged,
+        cursor: judged,
     }
 }
 
+#[tactic(auto, using(crate::proofs::LeafRules::fine, crate::proofs::LeafRules::leaves))]
 pub fn label_store(
-    image: &[u32],
-    table: &[u32; SIZE],
-    types: &[u32],
-    bounds: &[u32; BOUNDS],
-    scope: Scope,
+    walk: Walk<'_>,
+    enclosing: &Enclosing,
     context: Context,
-    at: usize,
+    cursor: Cursor,
     level: u32,
-    best: Fault,
 ) -> Walked
-    requires { StatementRead level (params_in table.now) scope.me image.now at × (op_of (get_or image.now at 0) ≡ 1) }
-    ensures { result ≡ walked (procedures_in image.now) (arrays_in table.now) types.now (bounds_in bounds.now) scope context.pc context.rc at best
-        (read_statement level (params_in table.now) scope.me image.now at) }
+    requires { StatementHere walk cursor level × (op_here walk cursor ≡ 1) }
+    ensures { result ≡ statement_at walk.entry (bounds_in enclosing.now.loops) context cursor level }
 {
     let secret = context.pc | context.rc;
-    let inner = level - 1;
-    let a = target(image[at]);
-    let i = label_expression(image, table, types, bounds, secret, at + 1, inner, best);
-    let index = note_index(image, table, bounds, secret, a, at + 1, i.secret, i.best);
-    let e = label_expression(image, table, types, bounds, secret, i.next, inner, index);
-    let array = secret_array(table, a);
-    let judged = faults::note(e.best, (e.secret | secret) & !array, 9, at);
+    let around = Around {
+        procedure: walk.procedure,
+        enclosing,
+        secret,
+    };
+    let operands = Cursor {
+        at: cursor.at + 1,
+        ..cursor
+    };
+    let a = target(walk.procedure.program.image[cursor.at]);
+    let index = label_expression(around, operands, level - 1);
+    let behind = note_index(around, a, operands.at, index);
+    let stored = label_expression(around, behind, level - 1);
+    let array = secret_array(walk.procedure.program.table, a);
+    let leaks = (stored.secret | secret) & !array;
+    let judged = stored.cursor.noted(leaks, Reason::Flow, cursor.at);
     Walked {
         rc: context.rc,
-        next: e.next,
-        best: judged,
+        cursor: judged,
     }
 }
 
+#[tactic(auto, using(crate::proofs::LeafRules::fine, crate::proofs::LeafRules::leaves))]
 pub fn label_return(
-    image: &[u32],
-    table: &[u32; SIZE],
-    types: &[u32],
-    bounds: &[u32; BOUNDS],
-    scope: Scope,
+    walk: Walk<'_>,
+    enclosing: &Enclosing,
     context: Context,
-    at: usize,
+    cursor: Cursor,
     level: u32,
-    best: Fault,
 ) -> Walked
-    requires { StatementRead level (params_in table.now) scope.me image.now at × (op_of (get_or image.now at 0) ≡ 4) }
-    ensures { result ≡ walked (procedures_in image.now) (arrays_in table.now) types.now (bounds_in bounds.now) scope context.pc context.rc at best
-        (read_statement level (params_in table.now) scope.me image.now at) }
+    requires { StatementHere walk cursor level × (op_here walk cursor ≡ 4) }
+    ensures { result ≡ statement_at walk.entry (bounds_in enclosing.now.loops) context cursor level }
 {
     let secret = context.pc | context.rc;
-    let e = label_expression(image, table, types, bounds, secret, at + 1, level - 1, best);
-    let given = type_secret(scope.result);
-    let judged = faults::note(e.best, (e.secret | secret) & !given, 9, at);
+    let around = Around {
+        procedure: walk.procedure,
+        enclosing,
+        secret,
+    };
+    let operand = Cursor {
+        at: cursor.at + 1,
+        ..cursor
+    };
+    let returned = label_expression(around, operand, level - 1);
+    let given = type_secret(walk.result);
+    let leaks = (returned.secret | secret) & !given;
+    let judged = returned.cursor.noted(leaks, Reason::Flow, cursor.at);
     Walked {
         rc: secret,
-        next: e.next,
-        best: judged,
+        cursor: judged,
     }
 }
 
 // The arguments of a call of procedure `f`. Only their values count, not the context.
-fn label_arguments(
-    image: &[u32],
-    table: &[u32; SIZE],
-    types: &[u32],
-    bounds: &[u32; BOUNDS],
-    context: bool,
-    f: u32,
-    at: usize,
-    level: u32,
-    best: Fault,
-) -> Ended
-    requires { Listed image.now table.now f × (ok (arguments_at (get_or (params_in table.now) f 0) level image.now at) ≡ true) }
-    ensures { result ≡ argued_all types.now (arrays_in table.now) (bounds_in bounds.now) context (procedure_in image.now f).types 0 best
-        (arguments_at (get_or (params_in table.now) f 0) level image.now at) }
+#[tactic(auto, using(crate::proofs::LeafRules::arguments))]
+fn label_arguments(around: Around<'_>, f: u32, first: Cursor, level: u32) -> Cursor
+    requires { (f < length (image_in around.procedure.program.image.now).procedures)
+        × (ok (arguments_at (get_or (params_in around.procedure.program.table.now) f 0) level around.procedure.program.image.now first.at) ≡ true) }
+    ensures { result ≡ argued_all around.entry.procedure.types.now (arrays_in around.entry.procedure.program.table.now)
+        (bounds_in around.entry.enclosing.now.loops) around.entry.secret (procedure_in around.entry.procedure.program.image.now f).types 0 first.best
+        (arguments_at (get_or (params_in around.entry.procedure.program.table.now) f 0) level around.entry.procedure.program.image.now first.at) }
 {
-    let count = tables::parameters(table, f);
-    let mut k = 0;
-    let mut a = at;
-    let mut found = best;
-    while k < count {
-        let parameter = type_secret(variable_type(image, table, f, k));
-        let e = label_expression(image, table, types, bounds, context, a, level, found);
-        let lowest = faults::note(e.best, e.secret & !parameter, 9, a);
-        a = e.next;
-        found = lowest;
-        k += 1;
+    let program = around.procedure.program;
+    let mut cursor = first;
+    for k in 0..program.parameters(f) {
+        let parameter = type_secret(program.variable_type(f, k));
+        let argument = label_expression(around, cursor, level);
+        let leaks = argument.secret & !parameter;
+        cursor = argument.cursor.noted(leaks, Reason::Flow, cursor.at);
     }
-    Ended {
-        next: a,
-        best: found,
-    }
+    cursor
 }
 
 // A call: what it gives back, whom it calls, its arguments.
+#[tactic(auto, using(crate::proofs::LeafRules::fine, crate::proofs::LeafRules::leaves))]
 pub fn label_call(
-    image: &[u32],
-    table: &[u32; SIZE],
-    types: &[u32],
-    bounds: &[u32; BOUNDS],
-    scope: Scope,
+    walk: Walk<'_>,
+    enclosing: &Enclosing,
     context: Context,
-    at: usize,
+    cursor: Cursor,
     level: u32,
-    best: Fault,
 ) -> Walked
-    requires { StatementRead level (params_in table.now) scope.me image.now at × (op_of (get_or image.now at 0) ≡ 5) × Listed image.now table.now scope.me }
-    ensures { result ≡ walked (procedures_in image.now) (arrays_in table.now) types.now (bounds_in bounds.now) scope context.pc context.rc at best
-        (read_statement level (params_in table.now) scope.me image.now at) }
+    requires { StatementHere walk cursor level × (op_here walk cursor ≡ 5) }
+    ensures { result ≡ statement_at walk.entry (bounds_in enclosing.now.loops) context cursor level }
 {
-    let w = image[at];
+    let program = walk.procedure.program;
+    let w = program.image[cursor.at];
+    let first = cursor.at + 1;
     let f = called(w);
     let secret = context.pc | context.rc;
-    let given = type_secret(result_type(image, table, f));
-    let variable = secret_variable(types, result(w));
-    let flow = faults::note(best, (given | secret) & !variable, 9, at);
-    let guarded = is_guarded(image, table, f);
-    let mode = faults::note(flow, secret & !guarded, 12, at);
-    let inner = level - 1;
-    let e = label_arguments(image, table, types, bounds, secret, f, at + 1, inner, mode);
-    let found = e.best;
+    let given = type_secret(program.result_type(f));
+    let variable = secret_variable(walk.procedure.types, result(w));
+    let flow = cursor.noted((given | secret) & !variable, Reason::Flow, cursor.at);
+    let guarded = program.is_guarded(f);
+    let mode = flow.noted(secret & !guarded, Reason::OpenCall, cursor.at);
+    let around = Around {
+        procedure: walk.procedure,
+        enclosing,
+        secret,
+    };
+    let arguments = Cursor { at: first, ..mode };
+    let behind = label_arguments(around, f, arguments, level - 1);
     Walked {
         rc: context.rc,
-        next: e.next,
-        best: found,
+        cursor: behind,
     }
 }

@@ -1,8 +1,16 @@
 // The checker's third group: flow (9), secret where public (10), unbounded (11), calls (12), secret branches in form 1 (13).
-// Every function walks the words with a cursor, and carries the lowest fault so far.
+// Every function walks the words with a cursor, which carries the lowest fault so far.
 #![tactic(auto)]
 
+ghost use Rattle.std.specs.Prelude.{◌≡◌, ◌≤◌};
+ghost use Rattle.definitions.specs.Faults.{least, fault_if};
+ghost use Rattle.reasons.specs.Numbers.{reason_number};
+ghost use Rattle.labels.specs.Cursors.{ending};
+
 use definitions::{ConstantLoop, Fault};
+use enclosing::Enclosing;
+use reasons::Reason;
+use tables::programs::Procedure;
 
 mod enclosing; // the enclosing fors with constant bounds
 pub mod operands; // what an operand's words say
@@ -13,47 +21,59 @@ pub mod loops; // the bounds of a for
 mod statement_words; // statements that hold blocks, and blocks
 pub mod procedures; // a whole image
 
-// Passes and upper bound of a variable over which no for with constant bounds stands around this place.
-const UNBOUNDED: u32 = 0xFFFF_FFFF;
-
-// The words for the enclosing fors: two for each number that a variable can have.
-const BOUNDS: usize = 512;
-
-// The procedure whose body is checked: its number, its image's form, its result's type word.
+// Where a walk stands, and the lowest fault so far.
 #[derive(Clone, Copy)]
-pub struct Scope {
-    pub me: u32,
+pub struct Cursor {
+    pub at: usize,
+    pub best: Fault,
+}
+
+impl Cursor {
+    // Notes the fault of a rule at a place, where the rule is broken.
+    fn noted(self, broken: bool, reason: Reason, place: usize) -> Cursor
+        requires { 1 ≤ reason_number reason }
+        ensures { result ≡ ending self.at (least self.best (fault_if broken (reason_number reason) place)) }
+    {
+        Cursor {
+            at: self.at,
+            best: faults::note(self.best, broken, reason.number(), place),
+        }
+    }
+}
+
+// What a statement is judged by: the procedure whose body it stands in, its image's form, its result's type word.
+#[derive(Clone, Copy)]
+pub struct Walk<'a> {
+    pub procedure: Procedure<'a>,
     pub form: u32,
     pub result: u32,
 }
 
-// What the walk of an expression gives: whether it is secret, the place after it, the lowest fault so far.
+// What an expression is judged by: its procedure, the enclosing fors, whether its context is secret.
+#[derive(Clone, Copy)]
+pub struct Around<'a> {
+    pub procedure: Procedure<'a>,
+    pub enclosing: &'a Enclosing,
+    pub secret: bool,
+}
+
+// What the walk of an expression gives: whether it is secret, and the cursor behind it.
 #[derive(Clone, Copy)]
 pub struct Labelled {
     pub secret: bool,
-    pub next: usize,
-    pub best: Fault,
+    pub cursor: Cursor,
 }
 
-// A call's arguments: the place after them, the lowest fault so far.
-#[derive(Clone, Copy)]
-pub struct Ended {
-    pub next: usize,
-    pub best: Fault,
-}
-
-// A for's bounds: the for that is around its variable in its block, the place after them, the lowest fault so far.
+// What the walk of a for's bounds gives: the for that is around its variable in its block, if both are constants, and the cursor behind them.
 #[derive(Clone, Copy)]
 pub struct Limited {
-    pub inside: ConstantLoop,
-    pub next: usize,
-    pub best: Fault,
+    pub inside: Option<ConstantLoop>,
+    pub cursor: Cursor,
 }
 
-// What the walk of a statement or a block gives: the rc after it, the place after it, the lowest fault so far.
+// What the walk of a statement or a block gives: the rc after it, and the cursor behind it.
 #[derive(Clone, Copy)]
 pub struct Walked {
     pub rc: bool,
-    pub next: usize,
-    pub best: Fault,
+    pub cursor: Cursor,
 }

@@ -1,57 +1,52 @@
 // What the words of one operand say.
-ghost use Rattle.std.specs.Prelude.{◌≡◌, ◌<◌, length};
+ghost use Rattle.std.specs.Prelude.{◌≡◌, ◌<◌, eqb, length, is_some};
+ghost use Rattle.definitions.specs.Image.{kind_of};
+ghost use Rattle.image_words.specs.Kinds.{kind_number};
+ghost use Rattle.std.specs.Option.{unwrap_or};
 ghost use Rattle.labels.specs.Enclosing.{bounds_in};
 ghost use Rattle.labels.specs.Operand.{constant_at, value_at, bounded_at};
 
-use super::BOUNDS;
-use super::enclosing::loop_around;
+use super::enclosing::Enclosing;
 use super::sums::bounded_addition;
+use image_words::kinds::Kind;
 use image_words::lists::element;
-use image_words::{kind, kinds, payload};
+use image_words::payload;
 
-// Whether the operand at a place is a constant.
-#[tactic(auto, using(crate::proofs::OperandRules::constant_here))]
-pub fn constant_at(image: &[u32], at: usize) -> bool
-    ensures { result ≡ constant_at image.now at }
+// Whether a word begins an expression of a kind.
+pub fn begins(w: u32, kind: Kind) -> bool
+    ensures { result ≡ eqb (kind_of w) (kind_number kind) }
 {
-    let k = kind(element(image, at));
-    (k == kinds::CONSTANT) | (k == kinds::RAW_CONSTANT)
+    image_words::kind(w) == kind as u32
 }
 
-// The value of the constant at a place, 0 where there is none.
-#[tactic(auto, using(crate::proofs::OperandRules::value_constant, crate::proofs::OperandRules::value_raw, crate::proofs::OperandRules::value_none))]
-pub fn value_at(image: &[u32], at: usize) -> u32
-    requires { at < length image.now }
-    ensures { result ≡ value_at image.now at }
+// The value of the constant at a place, if one stands there.
+#[tactic(auto, using(crate::proofs::OperandRules::constants))]
+pub fn constant_at(image: &[u32], at: usize) -> Option<u32>
+    ensures constant { is_some result ≡ constant_at image.now at }
+    ensures value { unwrap_or result 0 ≡ value_at image.now at }
 {
-    let w = image[at];
-    let k = kind(w);
-    if k == kinds::CONSTANT {
-        return payload(w);
+    let w = element(image, at);
+    if begins(w, Kind::Constant) {
+        return Some(payload(w));
     }
-    if k == kinds::RAW_CONSTANT {
-        return element(image, at + 1);
+    if begins(w, Kind::RawConstant) {
+        return Some(element(image, at + 1));
     }
-    0
+    None
 }
 
 // Whether the operand at a place is an index that stays below a length in every run.
-#[tactic(auto, using(crate::proofs::OperandRules::bounded_constant, crate::proofs::OperandRules::bounded_variable, crate::proofs::OperandRules::bounded_binary, crate::proofs::OperandRules::bounded_other))]
-pub fn bounded_at(image: &[u32], bounds: &[u32; BOUNDS], size: u32, at: usize) -> bool
+#[tactic(auto, using(crate::proofs::OperandRules::bounded))]
+pub fn bounded_at(image: &[u32], enclosing: &Enclosing, size: u32, at: usize) -> bool
     requires { at < length image.now }
-    ensures { result ≡ bounded_at image.now (bounds_in bounds.now) size at }
+    ensures { result ≡ bounded_at image.now (bounds_in enclosing.now.loops) size at }
 {
-    if constant_at(image, at) {
-        return value_at(image, at) < size;
+    if let Some(value) = constant_at(image, at) {
+        return value < size;
     }
     let w = image[at];
-    let k = kind(w);
-    if k == kinds::VARIABLE {
-        let l = loop_around(bounds, payload(w));
-        return l.upper <= size;
+    if begins(w, Kind::Variable) {
+        return enclosing.around(payload(w)).upper <= size;
     }
-    if k == kinds::BINARY {
-        return bounded_addition(image, bounds, size, at);
-    }
-    false
+    begins(w, Kind::Binary) && bounded_addition(image, enclosing, size, at)
 }

@@ -1,67 +1,69 @@
 -- Each way in which a request on an accepted image ends. Assumes nothing.
 use mathlib.Core.Path.{◌≡◌, refl, sym, ap, ◌∙◌}
 use mathlib.Core.List.{List, ◌++◌}
-use Prim.Native.Nat.{ℕ, ◌+◌, ◌*◌, ◌-◌, ◌≤◌, ◌<◌}
+use Prim.Native.Nat.{ℕ, ◌+◌, ◌*◌, ◌≤◌, ◌<◌}
 use native.Mathlib.Omega.{arith}
-use lib.ListN.{get_or, set, take, drop, replicate, length-replicate, replicate-append-replicate}
-use lib.Seq.{take_at, take-set-lt, get_or-take}
+use lib.ListN.{get_or, set, drop, replicate}
+use lib.Seq.{take-set-lt, get_or-take}
 use Rattle.definitions.specs.Bytes.{bytes_of}
 use Rattle.definitions.specs.Image.{base_of}
 use Rattle.definitions.specs.declared.Answer.{Answer}
 use Rattle.definitions.specs.declared.Answer.TheVariants.{Done, Stopped, Refused}
 use Rattle.tables.specs.Table.{arrays_in}
-use Rattle.requests.specs.declared.cells.Slot.{Slot}
-use Rattle.requests.specs.declared.cells.Slot.TheVariants.{At, Nothing}
+use Rattle.std.proofs.Common.{Option, Some, None}
+use Rattle.std.proofs.lemmas.List.{take-replicate}
 use Rattle.requests.specs.Cells.{slot_in, Fits}
 use Rattle.requests.specs.OwnCells.{clear_on, poke_on, peek_on}
 use Rattle.requests.proofs.CellRules.{slot_at, slot_nothing, cell_within}
-use Rattle.machine.specs.declared.Machine.{Machine}
+use Rattle.machine.specs.declared.machines.Machine.{Machine}
+use Rattle.machine.specs.declared.machines.Turn.{Turn}
 use Rattle.machine.specs.Turns.{held, Kept, Turned, given_back}
 
-take_zeros : (n m : ℕ) → n ≤ m → ◌≡◌ {A = List ℕ} (take n (replicate m 0)) (replicate n 0)
-take_zeros n m h =
-    let e : n + (m - n) ≡ m = omega arith in
-    let s : ◌≡◌ {A = List ℕ} (replicate n 0 ++ replicate (m - n) 0) (replicate m 0) = rw e at (replicate-append-replicate {A = ℕ} n (m - n) 0) in
-    rw (← s) (take_at (replicate n 0) (replicate (m - n) 0) n (length-replicate {A = ℕ} n 0))
+module _ {N : ℕ} (m : Machine N) where
+  -- a machine of as many cells, with other words in its array
+  abbrev filled_with : List ℕ → m.count ≤ N → Machine N
+  filled_with cells w = record { cells = cells; count = m.count; within = w }
 
-pub cleared : (m : Machine) → m.count ≤ 1024
-    → Turned m (record { machine = record { cells = replicate 1024 0; count = m.count }; answer = Done 0 0 0 }) (clear_on m.count)
-unfolding clear_on Kept
-cleared m h = record { gives = rw (take_zeros m.count 1024 h); kept = refl }
+  pub cleared : (w : m.count ≤ N) → Turned m (record { machine = filled_with (replicate N 0) w; answer = Done 0 0 0 }) (clear_on m.count)
+  unfolding clear_on Kept
+  cleared w = record { gives = rw (take-replicate {X = ℕ} m.count N 0 m.within); kept = refl }
 
-module _ (m : Machine) (table : List ℕ) (a i : ℕ) (fits : Fits table m.count) (s : Slot) (e : s ≡ slot_in table a i) where
-  pub no_poke : (v : ℕ) → s ≡ Nothing → Turned m (record { machine = m; answer = Refused 17 0 }) (poke_on (arrays_in table) (held m) a i v)
-  unfolding poke_on Kept
-  no_poke v n = record { gives = rw (slot_nothing table a i m.count fits s e n); kept = refl }
-
-  pub no_peek : s ≡ Nothing → Turned m (record { machine = m; answer = Refused 17 0 }) (peek_on (arrays_in table) (held m) a i)
-  unfolding peek_on Kept
-  no_peek n = record { gives = rw (slot_nothing table a i m.count fits s e n); kept = refl }
-
-  module _ (n : ℕ) (f : s ≡ At n) where
-    pub slot_below : n < m.count
-    slot_below = let (t, q) = slot_at table a i m.count fits s e n f in omega (arith, cell_within (arrays_in table) a i t, fits.all)
-
-    pub slot_small : n < 1024
-    slot_small = omega (arith, slot_below, fits.all, fits.most)
-
-    pub poked : (v : ℕ)
-        → Turned m (record { machine = record { cells = set m.cells n v; count = m.count }; answer = Done 0 0 0 }) (poke_on (arrays_in table) (held m) a i v)
+  module _ (table : List ℕ) (a i : ℕ) (fits : Fits table m.count) (s : Option ℕ) (e : s ≡ slot_in table a i) where
+    pub no_poke : (v : ℕ) (r : Turn N) → s ≡ None → r.machine ≡ m → r.answer ≡ Refused 17 0 → Turned m r (poke_on (arrays_in table) (held m) a i v)
     unfolding poke_on Kept
-    poked v =
-        let (t, q) = slot_at table a i m.count fits s e n f in
-        record { gives = rw (t, take-set-lt m.count m.cells n v slot_below, q); kept = refl }
+    no_poke v r n k q = record { gives = rw (k, q, slot_nothing table a i m.count fits s e n); kept = rw q k }
 
-    pub peeked : (v : ℕ) → v ≡ get_or m.cells n 0 → Turned m (record { machine = m; answer = Done v 0 0 }) (peek_on (arrays_in table) (held m) a i)
+    pub no_peek : (r : Turn N) → s ≡ None → r.machine ≡ m → r.answer ≡ Refused 17 0 → Turned m r (peek_on (arrays_in table) (held m) a i)
     unfolding peek_on Kept
-    peeked v r =
-        let (t, q) = slot_at table a i m.count fits s e n f in
-        let w : v ≡ get_or (held m) (base_of (arrays_in table) a + i) 0 = r ∙ sym (get_or-take m.count m.cells n 0 slot_below) ∙ ap (λ (k : ℕ). get_or (held m) k 0) q in
-        record { gives = rw (t, w); kept = refl }
+    no_peek r n k q = record { gives = rw (k, q, slot_nothing table a i m.count fits s e n); kept = rw q k }
+
+    module _ (n : ℕ) (f : s ≡ Some n) where
+      slot_below : n < m.count
+      slot_below = let (t, q) = slot_at table a i m.count fits s e n f in omega (arith, cell_within (arrays_in table) a i t, fits.all)
+
+      pub slot_within : n < N
+      slot_within = omega (arith, slot_below, m.within)
+
+      pub slot_small : n < 1024
+      slot_small = omega (arith, slot_below, fits.all, fits.most)
+
+      pub poked : (v : ℕ) (w : m.count ≤ N)
+          → Turned m (record { machine = filled_with (set m.cells n v) w; answer = Done 0 0 0 }) (poke_on (arrays_in table) (held m) a i v)
+      unfolding poke_on Kept
+      poked v w =
+          let (t, q) = slot_at table a i m.count fits s e n f in
+          record { gives = rw (t, take-set-lt m.count m.cells n v slot_below, q); kept = refl }
+
+      pub peeked : (v : ℕ) → v ≡ get_or m.cells n 0 → Turned m (record { machine = m; answer = Done v 0 0 }) (peek_on (arrays_in table) (held m) a i)
+      unfolding peek_on Kept
+      peeked v r =
+          let (t, q) = slot_at table a i m.count fits s e n f in
+          let w : v ≡ get_or (held m) (base_of (arrays_in table) a + i) 0 = r ∙ sym (get_or-take m.count m.cells n 0 slot_below) ∙ ap (λ (k : ℕ). get_or (held m) k 0) q in
+          record { gives = rw (t, w); kept = refl }
 
 -- ---- the cells that go back, by the answer beside them
 
-module _ (m : Machine) (cells : List ℕ) (a : Answer) where
+module _ {N : ℕ} (m : Machine N) (cells : List ℕ) (a : Answer) where
   pub back_done : (v z n : ℕ) → a ≡ Done v z n → (after : List ℕ) → after ≡ bytes_of (held m) ++ drop (4 * m.count) cells
       → (Done v z n ≡ a) × (after ≡ given_back a m cells)
   back_done v z n e after w = rw e (refl, w)

@@ -1,26 +1,29 @@
 -- How a call ends: refused, stopped, or with a result. Assumes nothing.
 use mathlib.Core.Path.{◌≡◌, refl, sym, ap, ◌∙◌}
+use mathlib.Core.Logic.{◌⊎◌, inl, inr}
 use mathlib.Core.Bool.{Bool, true, false}
 use mathlib.Core.List.{List, [], ◌++◌}
 use Prim.Native.Nat.{ℕ, zero, suc, ◌≤◌, ◌<◌}
 use native.Mathlib.Omega.{arith}
 use borrow.Author.Tests.{lt-ltb, le-ltb, eq-eqb, ne_eqb}
 use lib.Dec.{eqb}
-use lib.ListN.{length, take, drop, take-append-drop, length-take}
+use lib.ListN.{length, take, drop, take-append-drop}
 use lib.Seq.{take_at, length-take-le}
 use Rattle.definitions.specs.Choice.{pick}
 use Rattle.definitions.specs.Bytes.{bytes_of, lent}
 use Rattle.definitions.specs.Image.{cell_count, Image, Procedure, procedure_at}
 use Rattle.definitions.specs.Running.{Trace, trace_words, Ran, and_go, Given, run_block, frame, finish, run_procedure}
-use Rattle.definitions.specs.Requests.{Called, answered, argument_values, ended, called_on}
+use Rattle.definitions.specs.Requests.{answered, argument_values, ended, called_on}
 use Rattle.definitions.specs.declared.Answer.{Answer}
 use Rattle.definitions.specs.declared.Answer.TheVariants.{Done, Stopped, Refused}
 use Rattle.laws.specs.ImageIn.{image_in}
 use Rattle.requests.specs.SpareRuns.{Both, both_on, both_halt, WideGiven, wide_gave, procedure_spare}
 use Rattle.runner.specs.declared.procedures.Execution.{Execution}
-use Rattle.runner.specs.declared.procedures.Execution.TheVariants.{Done as Ended, Stopped as Halted}
-use Rattle.runner.specs.Executions.{told, executed}
-use Rattle.machine.specs.declared.Machine.{Machine}
+use Rattle.reasons.specs.Numbers.{reason_number}
+use Rattle.std.specs.Prelude.{Ok, Err}
+use Rattle.tracing.specs.declared.Stop.{Stop}
+use Rattle.runner.specs.Executions.{told, told_of, executed}
+use Rattle.machine.specs.declared.machines.Machine.{Machine}
 use Rattle.machine.specs.Turns.{held, Kept}
 use Rattle.machine.specs.Serving.{Whole, ran_on, own_in, left, Outcome, TurnedCall, TurnedPreview}
 
@@ -85,25 +88,25 @@ ran_framed tree cells f us ws budget room h =
 module _ (image first : List ℕ) (p : Procedure) (rest : List ℕ) (C : Trace (List ℕ)) (budget : ℕ) (before after cells : List ℕ) (r : Execution) where
   spare_done : length (own_in image first) ≡ cell_count (image_in image).arrays
       → (x y : Ran (List ℕ) Given) → Both (WideGiven C budget (image_in image).arrays rest) x y → told r cells after ≡ executed before y
-      → (v z u a : ℕ) → r ≡ Ended v z u → a ≡ answered p.result v
-      → Outcome image first cells (Done a z u) before after (ended p (own_in image first) x)
-  unfolding ended told executed
-  spare_done long x y (both_on g k i t (wide_gave w cs l)) d v z u a s q =
+      → (v a : ℕ) → r.outcome ≡ Ok v → a ≡ answered p.result v
+      → Outcome image first cells (Done a r.steps r.words) before after (ended p (own_in image first) x)
+  unfolding ended told_of executed
+  spare_done long x y (both_on g k i t (wide_gave w cs l)) d v a s q =
       let d2 = rw s at d in
       let same : cells ≡ cs ++ rest = cc in
       let value : v ≡ w = cc in
-      let steps : z ≡ i = cc in
-      let words : u ≡ length t = cc in
+      let steps : r.steps ≡ i = cc in
+      let words : r.words ≡ length t = cc in
       let front : own_in image cells ≡ cs = rw same (take_at cs rest (cell_count (image_in image).arrays) l) in
       record { answer = rw (q, value, steps, words); cells = front; whole = ap length front ∙ l ∙ sym long; trace = cc }
-  spare_done long x y (both_halt n l i t) d v z u a s q = let d2 = rw s at d in absurd (let z : ◌≡◌ {A = ℕ} 0 1 = cc in omega arith)
+  spare_done long x y (both_halt n l i t) d v a s q = let d2 = rw s at d in absurd (let z : ◌≡◌ {A = ℕ} 0 1 = cc in omega arith)
 
   spare_stopped : (x y : Ran (List ℕ) Given) → Both (WideGiven C budget (image_in image).arrays rest) x y → told r cells after ≡ executed before y
-      → (n l z u : ℕ) → r ≡ Halted n l z u
-      → Outcome image first cells (Stopped n l z u) before after (ended p (own_in image first) x)
-  unfolding ended told executed
-  spare_stopped x y (both_on g k i t (wide_gave w cs b)) d n l z u s = let d2 = rw s at d in absurd (let z : ◌≡◌ {A = ℕ} 0 1 = cc in omega arith)
-  spare_stopped x y (both_halt j q i t) d n l z u s = let d2 = rw s at d in record { answer = cc; cells = refl; whole = refl; trace = cc }
+      → (e : Stop) (n : ℕ) → r.outcome ≡ Err e → n ≡ reason_number e.reason
+      → Outcome image first cells (Stopped n e.place r.steps r.words) before after (ended p (own_in image first) x)
+  unfolding ended told_of executed
+  spare_stopped x y (both_on g k i t (wide_gave w cs b)) d e n s h = let d2 = rw s at d in absurd (let z : ◌≡◌ {A = ℕ} 0 1 = cc in omega arith)
+  spare_stopped x y (both_halt j q i t) d e n s h = let d2 = rw s at d in record { answer = cc; cells = refl; whole = refl; trace = cc }
 
 -- what an image of words runs over given cells
 abbrev run_in : List ℕ → ℕ → List ℕ → ℕ → ℕ → List ℕ → Ran (List ℕ) Given
@@ -132,71 +135,60 @@ module _ (image first : List ℕ) (f : ℕ) (values : List ℕ) (budget room : �
       procedure_spare (trace_words room) budget (image_in image).arrays spare (image_in image).procedures (length (image_in image).procedures) f values 0 []
       own all_own
 
-  pub run_done : (v z u a type : ℕ) → r ≡ Ended v z u → type ≡ (procedure_at (image_in image).procedures f).result → a ≡ answered type v
-      → Outcome image first cells (Done a z u) before after (ran_on (image_in image) own f values budget room)
+  pub run_done : (v a type : ℕ) → r.outcome ≡ Ok v → type ≡ (procedure_at (image_in image).procedures f).result → a ≡ answered type v
+      → Outcome image first cells (Done a r.steps r.words) before after (ran_on (image_in image) own f values budget room)
   unfolding ran_on
-  run_done v z u a type s t q =
+  run_done v a type s t q =
       spare_done image first (procedure_at (image_in image).procedures f) spare (trace_words room) budget before after cells r all_own
-      (run_in image f values budget room own) (run_in image f values budget room (own ++ spare)) both with_spare v z u a s
+      (run_in image f values budget room own) (run_in image f values budget room (own ++ spare)) both with_spare v a s
       (q ∙ ap (λ (n : ℕ). answered n v) t)
 
-  pub run_stopped : (n l z u : ℕ) → r ≡ Halted n l z u
-      → Outcome image first cells (Stopped n l z u) before after (ran_on (image_in image) own f values budget room)
+  pub run_stopped : (e : Stop) (n : ℕ) → r.outcome ≡ Err e → n ≡ reason_number e.reason
+      → Outcome image first cells (Stopped n e.place r.steps r.words) before after (ran_on (image_in image) own f values budget room)
   unfolding ran_on
-  run_stopped n l z u s =
+  run_stopped e n s h =
       spare_stopped image first (procedure_at (image_in image).procedures f) spare (trace_words room) budget before after cells r
-      (run_in image f values budget room own) (run_in image f values budget room (own ++ spare)) both with_spare n l z u s
+      (run_in image f values budget room own) (run_in image f values budget room (own ++ spare)) both with_spare e n s h
 
 -- ---- the machine after a call, and after a preview
 
-kept_left : (m : Machine) (cells : List ℕ) (x : Answer) → Kept x m (record { cells = left x m.cells cells; count = m.count })
-unfolding Kept
-kept_left m cells (Done v z n) = refl
-kept_left m cells (Stopped k p z n) = refl
-kept_left m cells (Refused k p) = refl
-
-left_front : (n : ℕ) (x : Answer) (first last first' last' : List ℕ) → take n first ≡ take n first' → take n last ≡ take n last'
-    → take n (left x first last) ≡ take n (left x first' last')
-left_front n (Done v z k) first last first' last' e g = g
-left_front n (Stopped k p z j) first last first' last' e g = e
-left_front n (Refused k p) first last first' last' e g = e
-
--- what a call that is done leaves has the image's cells still
-pub enough_left : (image first last : List ℕ) (count : ℕ) → Whole image count → count ≤ length first → (r : Answer) (before after : List ℕ) (q : Called)
-    → Outcome image first last r before after q → (v z n : ℕ) → r ≡ Done v z n → count ≤ length last
-enough_left image first last count all h r before after q o v z n e =
-    let w : length (own_in image last) ≡ length (own_in image first) = rw e at o.whole in
-    let w2 : length (take count last) ≡ length (take count first) = rw all w in
-    omega (arith, length-take count last, length-take-le count first h)
-
--- The run worked in an array that has the machine's cells at its front, and the machine that is handed back has those that it left there.
-module _ (m : Machine) (image first : List ℕ) (all : Whole image m.count) (front : take m.count first ≡ held m) (f : ℕ) (ws : List ℕ)
+-- The run worked in an array that has the machine's cells at its front.
+module _ {N : ℕ} (m : Machine N) (image first : List ℕ) (all : Whole image m.count) (front : take m.count first ≡ held m) (f : ℕ) (ws : List ℕ)
     (budget room : ℕ) (before after last : List ℕ) (r : Answer)
     (o : Outcome image first last r before after (called_on (image_in image) (own_in image first) f ws budget room)) where
   own_held : own_in image first ≡ held m
   own_held = ap (λ (n : ℕ). take n first) (sym all) ∙ front
 
-  pub turn_copied : (x : Answer) → r ≡ x → (cells : List ℕ) → take m.count cells ≡ take m.count last
-      → TurnedCall m (record { machine = record { cells = left x m.cells cells; count = m.count }; answer = x }) before after
-      (called_on (image_in image) (held m) f ws budget room)
-  turn_copied x e cells same =
-      let h : own_in image (left x first last) ≡ (called_on (image_in image) (own_in image first) f ws budget room).1 = rw e at o.cells in
+  -- a call that is done hands back a machine that has the cells which the run left
+  pub turn_done : (g : Machine N) → held g ≡ take m.count last → g.count ≡ m.count → (v z n : ℕ) → r ≡ Done v z n
+      → TurnedCall m (record { machine = g; answer = r }) before after (called_on (image_in image) (held m) f ws budget room)
+  unfolding Kept
+  turn_done g h c v z n e =
+      let left_cells : own_in image last ≡ (called_on (image_in image) (own_in image first) f ws budget room).1 = rw e at o.cells in
       record {
-        answer = rw (← own_held) (sym e ∙ o.answer);
-        cells = left_front m.count x m.cells cells first last (sym front) same
-            ∙ ap (λ (n : ℕ). take n (left x first last)) all
-            ∙ h
-            ∙ ap (λ (own : List ℕ). (called_on (image_in image) own f ws budget room).1) own_held;
+        answer = rw (← own_held) o.answer;
+        cells = h ∙ ap (λ (k : ℕ). take k last) all ∙ left_cells ∙ ap (λ (own : List ℕ). (called_on (image_in image) own f ws budget room).1) own_held;
         trace = rw (← own_held) o.trace;
-        kept = kept_left m cells x;
+        kept = rw e c;
       }
 
-module _ (m : Machine) (image : List ℕ) (all : Whole image m.count) (f : ℕ) (ws : List ℕ) (budget room : ℕ) (before after cells : List ℕ) (r : Answer)
-    (o : Outcome image m.cells cells r before after (called_on (image_in image) (own_in image m.cells) f ws budget room)) where
-  pub turn_called : (x : Answer) → r ≡ x
-      → TurnedCall m (record { machine = record { cells = left x m.cells cells; count = m.count }; answer = x }) before after
-      (called_on (image_in image) (held m) f ws budget room)
-  turn_called x e = turn_copied m image m.cells all refl f ws budget room before after cells r o x e cells refl
+  -- any other hands back the machine that came in
+  turn_kept : left r first last ≡ first → Kept r m m
+      → TurnedCall m (record { machine = m; answer = r }) before after (called_on (image_in image) (held m) f ws budget room)
+  turn_kept e k =
+      let cells : own_in image first ≡ (called_on (image_in image) (own_in image first) f ws budget room).1 = rw e at o.cells in
+      record {
+        answer = rw (← own_held) o.answer;
+        cells = sym own_held ∙ cells ∙ ap (λ (own : List ℕ). (called_on (image_in image) own f ws budget room).1) own_held;
+        trace = rw (← own_held) o.trace;
+        kept = k;
+      }
+
+  pub turn_other : ((k : ℕ) × (p : ℕ) × (z : ℕ) × (n : ℕ) × r ≡ Stopped k p z n) ⊎ ((k : ℕ) × (p : ℕ) × r ≡ Refused k p)
+      → TurnedCall m (record { machine = m; answer = r }) before after (called_on (image_in image) (held m) f ws budget room)
+  unfolding Kept
+  turn_other (inl (k, p, z, n, e)) = turn_kept (rw e refl) (rw e refl)
+  turn_other (inr (k, p, e)) = turn_kept (rw e refl) (rw e refl)
 
   pub turn_previewed : TurnedPreview m (record { machine = m; answer = r }) before after (called_on (image_in image) (held m) f ws budget room)
-  turn_previewed = rw all record { answer = o.answer; trace = o.trace; machine = refl }
+  turn_previewed = record { answer = rw (← own_held) o.answer; trace = rw (← own_held) o.trace; machine = refl }

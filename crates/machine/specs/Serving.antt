@@ -9,8 +9,8 @@ use Rattle.definitions.specs.Requests.{Called, ended}
 use Rattle.laws.specs.ImageIn.{image_in}
 use Rattle.tables.specs.Table.{params_in, Known}
 use Rattle.reader.specs.Ends.{BlockEnds}
-use Rattle.machine.specs.declared.Machine.{Machine}
-use Rattle.machine.specs.declared.Turn.{Turn}
+use Rattle.machine.specs.declared.machines.Machine.{Machine}
+use Rattle.machine.specs.declared.machines.Turn.{Turn}
 use Rattle.machine.specs.Turns.{held, Kept}
 
 -- a machine has as many cells as the image's arrays
@@ -48,14 +48,14 @@ pub record Outcome (image first last : List ℕ) (r : Answer) (before after : Li
   pub trace : after ≡ lent before q.2
 
 -- The turn gives what the definition's call gives, the lent trace too, and the machine holds as many cells as before.
-pub record TurnedCall (m : Machine) (r : Turn) (before after : List ℕ) (q : Called) : Type 0 where
+pub record TurnedCall {N : ℕ} (m : Machine N) (r : Turn N) (before after : List ℕ) (q : Called) : Type 0 where
   pub answer : r.answer ≡ q.0
   pub cells : held r.machine ≡ q.1
   pub trace : after ≡ lent before q.2
   pub kept : Kept r.answer m r.machine
 
 -- The turn gives the answer and the lent trace of the definition's call, and the machine that came in, its array's spare words too.
-pub record TurnedPreview (m : Machine) (r : Turn) (before after : List ℕ) (q : Called) : Type 0 where
+pub record TurnedPreview {N : ℕ} (m : Machine N) (r : Turn N) (before after : List ℕ) (q : Called) : Type 0 where
   pub answer : r.answer ≡ q.0
   pub trace : after ≡ lent before q.2
   pub machine : r.machine ≡ m

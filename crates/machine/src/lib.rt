@@ -2,6 +2,7 @@
 #![tactic(auto)]
 
 ghost use Rattle.std.specs.Prelude.{◌≡◌, ◌++◌, ◌*◌, ◌≤◌, length, take, drop};
+ghost use Rattle.definitions.specs.declared.Answer.TheVariants.{Refused};
 ghost use Rattle.definitions.specs.Bytes.{words_of, bytes_of};
 ghost use Rattle.definitions.specs.Requests.{called_on};
 ghost use Rattle.laws.specs.ImageIn.{image_in};
@@ -12,35 +13,24 @@ ghost use Rattle.machine.specs.Turns.{held, Turned, given_back};
 ghost use Rattle.machine.specs.Serving.{Serves, TurnedCall, TurnedPreview};
 
 use definitions::Answer;
-use evaluator::CELLS;
-use requests::cells::{Slot, find_cell};
+pub use evaluator::CELLS;
+pub use machines::{Call, FEW, Machine, Turn};
+use reasons::Reason;
+use requests::cells::find_cell;
 use runs::call_on;
-use tables::SIZE;
+use tables::Table;
+use tables::programs::Program;
 
+mod machines; // the machine, a turn of it, and what a call asks for
 mod runs; // a call over an array of cells
-pub mod small; // the machine of an image with few cells
 
-// The first `count` words are the cells of the image; those behind them mean nothing.
-#[derive(Clone, Copy)]
-pub struct Machine {
-    pub cells: [u32; CELLS],
-    pub count: usize,
-}
-
-// The machine after a request, beside the request's answer.
-#[derive(Clone, Copy)]
-pub struct Turn {
-    pub machine: Machine,
-    pub answer: Answer,
-}
-
-impl Machine {
+impl<const N: usize> Machine<N> {
     // The machine whose cells are the first words of the lent bytes.
     pub fn lent(cells: &[u8], count: usize) -> Self
-        requires { (count ≤ 1024) × (4 * count ≤ length cells.now) }
+        requires { (count ≤ N) × (4 * count ≤ length cells.now) }
         ensures { (held result ≡ take count (words_of cells.now)) × (result.count ≡ count) }
     {
-        let mut first = [0u32; CELLS];
+        let mut first = [0u32; N];
         words::read_words(cells, &mut first, count);
         Machine {
             cells: first,
@@ -50,104 +40,96 @@ impl Machine {
 
     // The machine's cells go back into the lent bytes; those behind them stay.
     pub fn give_back(self, cells: &mut [u8])
-        requires { (self.count ≤ 1024) × (4 * self.count ≤ length cells.old) }
-        ensures { cells.new ≡ bytes_of (held self) ++ drop (4 * self.count) cells.old }
+        requires { 4 * self.count ≤ length cells.old }
+        ensures { cells.new ≡ bytes_of (held self.entry) ++ drop (4 * self.entry.count) cells.old }
     {
-        let first = self.cells;
-        let count = self.count;
-        words::write_words(&first, cells, count);
+        words::write_words(&self.cells, cells, self.count);
     }
 
     // Load: every cell is 0.
-    pub fn load(self) -> Turn
-        requires { self.count ≤ 1024 }
-        ensures { Turned self result (clear_on self.count) }
+    pub fn load(self) -> Turn<N>
+        ensures { Turned self.entry result (clear_on self.entry.count) }
     {
         self.clear()
     }
 
     // Clear: every cell is 0.
-    pub fn clear(self) -> Turn
-        requires { self.count ≤ 1024 }
-        ensures { Turned self result (clear_on self.count) }
+    pub fn clear(self) -> Turn<N>
+        ensures { Turned self.entry result (clear_on self.entry.count) }
     {
         let count = self.count;
         Turn {
             machine: Machine {
-                cells: [0u32; CELLS],
+                cells: [0; N],
                 count,
             },
             answer: Answer::Done(0, 0, 0),
         }
     }
 
-    pub fn poke(self, table: &[u32; SIZE], a: u32, i: u32, v: u32) -> Turn
+    pub fn poke(self, table: &Table, a: u32, i: u32, v: u32) -> Turn<N>
         requires { Fits table.now self.count }
-        ensures { Turned self result (poke_on (arrays_in table.now) (held self) a i v) }
+        ensures { Turned self.entry result (poke_on (arrays_in table.now) (held self.entry) a i v) }
     {
-        let s = find_cell(table, a, i);
-        let Slot::At(at) = s else {
-            return Turn {
-                machine: self,
-                answer: Answer::Refused(17, 0),
-            };
+        let Some(at) = find_cell(table, a, i) else {
+            return self.missing();
         };
-        let count = self.count;
         let mut cells = self.cells;
         cells[at] = v;
         Turn {
-            machine: Machine { cells, count },
+            machine: Machine {
+                cells,
+                count: self.count,
+            },
             answer: Answer::Done(0, 0, 0),
         }
     }
 
-    pub fn peek(self, table: &[u32; SIZE], a: u32, i: u32) -> Turn
+    pub fn peek(self, table: &Table, a: u32, i: u32) -> Turn<N>
         requires { Fits table.now self.count }
-        ensures { Turned self result (peek_on (arrays_in table.now) (held self) a i) }
+        ensures { Turned self.entry result (peek_on (arrays_in table.now) (held self.entry) a i) }
     {
-        let s = find_cell(table, a, i);
-        let Slot::At(at) = s else {
-            return Turn {
-                machine: self,
-                answer: Answer::Refused(17, 0),
-            };
+        let Some(at) = find_cell(table, a, i) else {
+            return self.missing();
         };
-        let v = self.cells[at];
         Turn {
             machine: self,
-            answer: Answer::Done(v, 0, 0),
+            answer: Answer::Done(self.cells[at], 0, 0),
+        }
+    }
+
+    // The machine has no such cell.
+    fn missing(self) -> Turn<N>
+        ensures { (result.machine ≡ self.entry) × (result.answer ≡ Refused 17 0) }
+    {
+        Turn {
+            machine: self,
+            answer: Answer::Refused(Reason::Missing.number(), 0),
         }
     }
 
     // The call: a result hands back the machine that the run left, a stop or a refusal the one that came in.
     pub fn call(
         self,
-        image: &[u32],
-        table: &[u32; SIZE],
+        program: Program<'_>,
         ends: &[u16],
-        f: u32,
-        arguments: &[u8],
-        budget: u32,
+        call: Call<'_>,
         trace: &mut [u8],
-    ) -> Turn
-        requires { Serves image.now table.now ends.now self.count }
-        ensures { TurnedCall self result trace.old trace.new (called_on (image_in image.now) (held self) f
-            (words_of arguments.now) budget (length (words_of trace.old))) }
+    ) -> Turn<N>
+        requires { Serves program.image.now program.table.now ends.now self.count × (N ≤ 1024) }
+        ensures { TurnedCall self.entry result trace.old trace.new (called_on (image_in program.entry.image.now) (held self.entry) call.entry.procedure
+            (words_of call.entry.arguments.now) call.entry.budget (length (words_of trace.old))) }
     {
-        let mut cells = self.cells;
-        let count = self.count;
-        match call_on(&mut cells, image, table, ends, f, arguments, budget, trace) {
-            Answer::Done(v, steps, used) => Turn {
-                machine: Machine { cells, count },
-                answer: Answer::Done(v, steps, used),
+        let mut cells = self.spread();
+        let answer = call_on(&mut cells, program, ends, call, trace);
+        match answer {
+            Answer::Done(..) => Turn {
+                machine: self.gathered(&cells),
+                answer,
             },
-            Answer::Stopped(number, place, steps, used) => Turn {
+            Answer::Stopped(..) | Answer::Refused(..) => Turn {
                 machine: self, // the cells are as before the call
-                answer: Answer::Stopped(number, place, steps, used),
-            },
-            Answer::Refused(number, place) => Turn {
-                machine: self,
-                answer: Answer::Refused(number, place),
+                answer,
             },
         }
     }
@@ -155,45 +137,57 @@ impl Machine {
     // The preview: "making the call on a copy of the machine". The run works on the copy, and the machine that came in is handed back.
     pub fn preview(
         self,
-        image: &[u32],
-        table: &[u32; SIZE],
+        program: Program<'_>,
         ends: &[u16],
-        f: u32,
-        arguments: &[u8],
-        budget: u32,
+        call: Call<'_>,
         trace: &mut [u8],
-    ) -> Turn
-        requires { Serves image.now table.now ends.now self.count }
-        ensures { TurnedPreview self result trace.old trace.new (called_on (image_in image.now) (held self) f
-            (words_of arguments.now) budget (length (words_of trace.old))) }
+    ) -> Turn<N>
+        requires { Serves program.image.now program.table.now ends.now self.count × (N ≤ 1024) }
+        ensures { TurnedPreview self.entry result trace.old trace.new (called_on (image_in program.entry.image.now) (held self.entry) call.entry.procedure
+            (words_of call.entry.arguments.now) call.entry.budget (length (words_of trace.old))) }
     {
-        let mut copy = self.cells;
-        let answer = call_on(&mut copy, image, table, ends, f, arguments, budget, trace);
+        let mut copy = self.spread();
+        let answer = call_on(&mut copy, program, ends, call, trace);
         Turn {
             machine: self, // the copy is dropped
             answer,
         }
     }
+
+    // The array that a run works in, with the machine's cells at its front.
+    fn spread(&self) -> [u32; CELLS]
+        requires { N ≤ 1024 }
+        ensures { (length result ≡ 1024) × (take self.now.count result ≡ held self.now) }
+    {
+        let mut cells = [0u32; CELLS];
+        cells[..N].copy_from_slice(&self.cells);
+        cells
+    }
+
+    // The machine whose cells are at the front of the array that a run has worked in.
+    fn gathered(&self, cells: &[u32; CELLS]) -> Self
+        requires { N ≤ 1024 }
+        ensures { (held result ≡ take self.now.count cells.now) × (result.count ≡ self.now.count) }
+    {
+        let mut first = [0u32; N];
+        first.copy_from_slice(&cells[..N]);
+        Machine {
+            cells: first,
+            count: self.count,
+        }
+    }
 }
 
-impl Turn {
-    // What is done goes back into the lent bytes. After a refusal or a stop these hold the machine's cells already, and nothing is written: so the
-    // run's array is the only one that a call needs.
+impl<const N: usize> Turn<N> {
+    // What is done goes back into the lent bytes. After a refusal or a stop these hold the machine's cells already, and nothing is written.
     pub fn give_back(self, cells: &mut [u8]) -> Answer
-        requires { (self.machine.count ≤ 1024) × (4 * self.machine.count ≤ length cells.old) }
-        ensures { (result ≡ self.answer) × (cells.new ≡ given_back self.answer self.machine cells.old) }
+        requires { 4 * self.machine.count ≤ length cells.old }
+        ensures { (result ≡ self.entry.answer) × (cells.new ≡ given_back self.entry.answer self.entry.machine cells.old) }
     {
-        let machine = self.machine;
-        let answer = self.answer;
-        match answer {
-            Answer::Done(v, steps, used) => {
-                machine.give_back(cells);
-                Answer::Done(v, steps, used)
-            }
-            Answer::Stopped(number, place, steps, used) => {
-                Answer::Stopped(number, place, steps, used)
-            }
-            Answer::Refused(number, place) => Answer::Refused(number, place),
+        match self.answer {
+            Answer::Done(..) => self.machine.give_back(cells),
+            Answer::Stopped(..) | Answer::Refused(..) => {}
         }
+        self.answer
     }
 }

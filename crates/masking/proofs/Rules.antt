@@ -15,7 +15,6 @@ use Rattle.writer.specs.Laws.{writes_nil, writes_one, word_run, run_run}
 use Rattle.copying.specs.Copy.{Copied, spot, copied, copied_arguments}
 use Rattle.copying.specs.Laws.{copied_got, arguments_got}
 use Rattle.copying.specs.Runs.{word_copy, run_copy, copy_run, copy_copy}
-use Rattle.copying.specs.declared.Spot.{Spot}
 use Rattle.masking.specs.Forms.{act_of, secret_context, prefix, old_variable, old_cell, selected_words, assigned}
 use Rattle.masking.specs.Forms.{indexed, kept_cell, stored, returned, conditioned, call_head, called}
 use Rattle.masking.specs.declared.Act.{Act}
@@ -34,13 +33,13 @@ module _ (o : ℕ) (out : List ℕ) (r : ℕ) (u : List ℕ) where
   one_on v w h e = made o out r u v w h e ∙ sym (writes_one o out v)
 
   module _ (a : Act) where
-    pub act_both : (p : ℕ) (t : List ℕ) (v w : ℕ) → a.pc ≡ true → a.rc ≡ true → v ≡ word_with 10 a.arm → w ≡ word_with 10 a.live
-        → ◌≡◌ {A = Output} (p, t) (write o out (word_with 13 13)) → ◌≡◌ {A = Output} (r, u) (writes p t (v ∷ (w ∷ [])))
+    pub act_both : (v w : ℕ) → a.pc ≡ true → a.rc ≡ true → v ≡ word_with 10 a.arm → w ≡ word_with 10 a.live
+        → ◌≡◌ {A = Output} (r, u) (writes o out (word_with 13 13 ∷ (v ∷ (w ∷ []))))
         → ◌≡◌ {A = Output} (r, u) (writes o out (expression_words (act_of a)))
     unfolding act expression_words
-    act_both p t v w h i hv hw e f =
-        rw (h, i) (word_run o out p t (word_with 13 13) (word_with 10 a.arm ∷ (word_with 10 a.live ∷ [])) (r, u) e
-        (f ∙ ap (λ (z : ℕ). writes p t (z ∷ (w ∷ []))) hv ∙ ap (λ (z : ℕ). writes p t (word_with 10 a.arm ∷ (z ∷ []))) hw))
+    act_both v w h i hv hw e =
+        rw (h, i)
+        (e ∙ ap (λ (z : ℕ). writes o out (word_with 13 13 ∷ (z ∷ (w ∷ [])))) hv ∙ ap (λ (z : ℕ). writes o out (word_with 13 13 ∷ (word_with 10 a.arm ∷ (z ∷ [])))) hw)
 
     pub act_arm : (v : ℕ) → a.pc ≡ true → a.rc ≡ false → v ≡ word_with 10 a.arm → ◌≡◌ {A = Output} (r, u) (write o out v)
         → ◌≡◌ {A = Output} (r, u) (writes o out (expression_words (act_of a)))
@@ -124,70 +123,70 @@ module _ (first head : ℕ) (a : Act) (o : ℕ) (out : List ℕ) (x : Parse Expr
       run_copy o out p t (prefix (secret_context a) head (act_of a)) (expression_words (moved first e)) n r f (g ∙ copied_got first p t x e n q)
 
 module _ (first : ℕ) (a : Act) (o : ℕ) (out : List ℕ) (x : Parse Expression) (ok-x : ok x ≡ true) where
-  module _ (w p : ℕ) (t : List ℕ) (m : ℕ) (t1 : List ℕ) (v : Spot) (t2 : List ℕ) (r : ℕ) (u : List ℕ)
-      (e : ◌≡◌ {A = Output} (p, t) (write o out w)) (f : ◌≡◌ {A = Copied} (v, t2) (copied first m t1 x)) where
+  module _ (w p : ℕ) (t : List ℕ) (m : ℕ) (t1 : List ℕ) (v vo : ℕ) (t2 : List ℕ) (r : ℕ) (u : List ℕ)
+      (e : ◌≡◌ {A = Output} (p, t) (write o out w)) (f : ◌≡◌ {A = Copied} (v, (vo, t2)) (copied first m t1 x)) where
     pub assign_on : (y : ℕ) → w ≡ statement_word_with 0 y → ◌≡◌ {A = Output} (m, t1) (writes p t (prefix (secret_context a) (word_with 14 0) (act_of a)))
-        → ◌≡◌ {A = Output} (r, u) (writes v.o t2 (old_variable (secret_context a) y))
-        → ◌≡◌ {A = Copied} (record { at = v.at; o = r }, u) (assigned first y a o out x)
+        → ◌≡◌ {A = Output} (r, u) (writes vo t2 (old_variable (secret_context a) y))
+        → ◌≡◌ {A = Copied} (v, (r, u)) (assigned first y a o out x)
     unfolding assigned
     assign_on y hw d g =
         let (b, n, q) = got_ok x ok-x in
-        word_copy o out p t (statement_word_with 0 y) _ n (record { at = v.at; o = r }, u) (made o out p t (statement_word_with 0 y) w hw e)
-        (copy_run p t v t2 (prefix (secret_context a) (word_with 14 0) (act_of a) ++ expression_words (moved first b)) n
-        (value_on first (word_with 14 0) a p t x b n q m t1 (v, t2) d f) (old_variable (secret_context a) y) r u g)
+        word_copy o out p t (statement_word_with 0 y) _ n (v, (r, u)) (made o out p t (statement_word_with 0 y) w hw e)
+        (copy_run p t v vo t2 (prefix (secret_context a) (word_with 14 0) (act_of a) ++ expression_words (moved first b)) n
+        (value_on first (word_with 14 0) a p t x b n q m t1 (v, (vo, t2)) d f) (old_variable (secret_context a) y) r u g)
         ∙ ap (λ ws. spot n (writes o out ws)) (assign_words (secret_context a) (act_of a) (moved first b) y)
         ∙ ap (λ z. assigned first y a o out z) (sym q)
 
     pub condition_on : (k : ℕ) → w ≡ statement_word_with 0 k → ◌≡◌ {A = Output} (m, t1) (writes p t (prefix (secret_context a) (word_with 13 13) (act_of a)))
-        → ◌≡◌ {A = Output} (r, u) (writes v.o t2 (statement_words (assign (k + 1) (under (secret_context a) (act_of a) (unary 0 0 (variable 0 k))))))
-        → ◌≡◌ {A = Copied} (record { at = v.at; o = r }, u) (conditioned first k a o out x)
+        → ◌≡◌ {A = Output} (r, u) (writes vo t2 (statement_words (assign (k + 1) (under (secret_context a) (act_of a) (unary 0 0 (variable 0 k))))))
+        → ◌≡◌ {A = Copied} (v, (r, u)) (conditioned first k a o out x)
     unfolding conditioned
     condition_on k hw d g =
         let (b, n, q) = got_ok x ok-x in
-        word_copy o out p t (statement_word_with 0 k) _ n (record { at = v.at; o = r }, u) (made o out p t (statement_word_with 0 k) w hw e)
-        (copy_run p t v t2 (prefix (secret_context a) (word_with 13 13) (act_of a) ++ expression_words (moved first b)) n
-        (value_on first (word_with 13 13) a p t x b n q m t1 (v, t2) d f) _ r u g)
+        word_copy o out p t (statement_word_with 0 k) _ n (v, (r, u)) (made o out p t (statement_word_with 0 k) w hw e)
+        (copy_run p t v vo t2 (prefix (secret_context a) (word_with 13 13) (act_of a) ++ expression_words (moved first b)) n
+        (value_on first (word_with 13 13) a p t x b n q m t1 (v, (vo, t2)) d f) _ r u g)
         ∙ ap (λ ws. spot n (writes o out (ws ++ statement_words (assign (k + 1) (under (secret_context a) (act_of a) (unary 0 0 (variable 0 k)))))))
         (under_words (secret_context a) (act_of a) (moved first b) k)
         ∙ ap (λ z. conditioned first k a o out z) (sym q)
 
   module _ (rv : ℕ) where
-    pub return_on : (v : Spot) (t : List ℕ) (r : ℕ) (u : List ℕ) → secret_context a ≡ true → ◌≡◌ {A = Copied} (v, t) (assigned first rv a o out x)
-        → ◌≡◌ {A = Output} (r, u) (writes v.o t (selected_words (rv + 1) (act_of a) (word_with 9 0)))
-        → ◌≡◌ {A = Copied} (record { at = v.at; o = r }, u) (returned first rv a o out x)
+    pub return_on : (v vo : ℕ) (t : List ℕ) (r : ℕ) (u : List ℕ) → secret_context a ≡ true → ◌≡◌ {A = Copied} (v, (vo, t)) (assigned first rv a o out x)
+        → ◌≡◌ {A = Output} (r, u) (writes vo t (selected_words (rv + 1) (act_of a) (word_with 9 0)))
+        → ◌≡◌ {A = Copied} (v, (r, u)) (returned first rv a o out x)
     unfolding assigned returned
-    return_on v t r u c e f =
+    return_on v vo t r u c e f =
         let (b, n, q) = got_ok x ok-x in
-        copy_run o out v t (statement_words (assign rv (masked (secret_context a) (act_of a) (moved first b) (variable 0 rv)))) n
+        copy_run o out v vo t (statement_words (assign rv (masked (secret_context a) (act_of a) (moved first b) (variable 0 rv)))) n
         (e ∙ ap (λ z. assigned first rv a o out z) q) (selected_words (rv + 1) (act_of a) (word_with 9 0)) r u f
         ∙ ap (λ ws. spot n (writes o out ws)) (return_words (secret_context a) (act_of a) (moved first b) rv c)
         ∙ ap (λ z. returned first rv a o out z) (sym q)
 
-    pub return_plain : (p : ℕ) (t : List ℕ) (r : Spot) (u : List ℕ) → secret_context a ≡ false → ◌≡◌ {A = Output} (p, t) (write o out (statement_word_with 4 0))
-        → ◌≡◌ {A = Copied} (r, u) (copied first p t x) → ◌≡◌ {A = Copied} (r, u) (returned first rv a o out x)
+    pub return_plain : (p : ℕ) (t : List ℕ) (r ro : ℕ) (u : List ℕ) → secret_context a ≡ false → ◌≡◌ {A = Output} (p, t) (write o out (statement_word_with 4 0))
+        → ◌≡◌ {A = Copied} (r, (ro, u)) (copied first p t x) → ◌≡◌ {A = Copied} (r, (ro, u)) (returned first rv a o out x)
     unfolding returned
-    return_plain p t r u c e f =
+    return_plain p t r ro u c e f =
         let (b, n, q) = got_ok x ok-x in
-        word_copy o out p t (statement_word_with 4 0) (expression_words (moved first b)) n (r, u) e (f ∙ copied_got first p t x b n q)
+        word_copy o out p t (statement_word_with 4 0) (expression_words (moved first b)) n (r, (ro, u)) e (f ∙ copied_got first p t x b n q)
         ∙ ap (λ ws. spot n (writes o out ws)) (plain_return_words (secret_context a) (act_of a) (moved first b) rv c)
         ∙ ap (λ z. returned first rv a o out z) (sym q)
 
-module _ (first c o : ℕ) (out : List ℕ) (x : Parse Expression) (ok-x : ok x ≡ true) (w p : ℕ) (t : List ℕ) (r : Spot) (u : List ℕ)
-    (e : ◌≡◌ {A = Output} (p, t) (write o out w)) (f : ◌≡◌ {A = Copied} (r, u) (copied first p t x)) where
-  pub index_on : w ≡ statement_word_with 1 c → ◌≡◌ {A = Copied} (r, u) (indexed first c o out x)
+module _ (first c o : ℕ) (out : List ℕ) (x : Parse Expression) (ok-x : ok x ≡ true) (w p : ℕ) (t : List ℕ) (r ro : ℕ) (u : List ℕ)
+    (e : ◌≡◌ {A = Output} (p, t) (write o out w)) (f : ◌≡◌ {A = Copied} (r, (ro, u)) (copied first p t x)) where
+  pub index_on : w ≡ statement_word_with 1 c → ◌≡◌ {A = Copied} (r, (ro, u)) (indexed first c o out x)
   unfolding indexed
   index_on hw =
       let (i, n, q) = got_ok x ok-x in
-      word_copy o out p t (statement_word_with 1 c) (expression_words (moved first i)) n (r, u) (made o out p t (statement_word_with 1 c) w hw e)
+      word_copy o out p t (statement_word_with 1 c) (expression_words (moved first i)) n (r, (ro, u)) (made o out p t (statement_word_with 1 c) w hw e)
       (f ∙ copied_got first p t x i n q)
       ∙ ap (λ z. indexed first c o out z) (sym q)
 
-  pub cell_on : (a : Act) → secret_context a ≡ true → w ≡ word_with 11 c → ◌≡◌ {A = Output} (r.o, u) (kept_cell (secret_context a) first c o out x)
+  pub cell_on : (a : Act) → secret_context a ≡ true → w ≡ word_with 11 c → ◌≡◌ {A = Output} (ro, u) (kept_cell (secret_context a) first c o out x)
   unfolding kept_cell old_cell
   cell_on a h hw =
       let (i, n, q) = got_ok x ok-x in
-      ap (λ (z : Copied). (z.0.o, z.1))
-      (word_copy o out p t (word_with 11 c) (expression_words (moved first i)) n (r, u) (made o out p t (word_with 11 c) w hw e) (f ∙ copied_got first p t x i n q))
+      ap (λ (z : Copied). z.1)
+      (word_copy o out p t (word_with 11 c) (expression_words (moved first i)) n (r, (ro, u)) (made o out p t (word_with 11 c) w hw e) (f ∙ copied_got first p t x i n q))
       ∙ ap (λ (b : Bool). writes o out (old_cell b c (moved first i))) (sym h) ∙ ap (λ z. kept_cell (secret_context a) first c o out z) (sym q)
 
 pub cell_none : (a : Act) (first c o : ℕ) (out : List ℕ) (x : Parse Expression) → secret_context a ≡ false
@@ -196,38 +195,38 @@ unfolding kept_cell old_cell
 cell_none a first c o out (got i n) h = rw h (sym (writes_nil o out))
 cell_none a first c o out (refused n p) h = refl
 
-module _ (first l : ℕ) (image : List ℕ) (at c o : ℕ) (out : List ℕ) (i : Spot) (t : List ℕ)
-    (e : ◌≡◌ {A = Copied} (i, t) (indexed first c o out (read_expression l image at))) where
-  index_end : i.at ≡ end_of (read_expression l image at)
+module _ (first l : ℕ) (image : List ℕ) (at c o : ℕ) (out : List ℕ) (i io : ℕ) (t : List ℕ)
+    (e : ◌≡◌ {A = Copied} (i, (io, t)) (indexed first c o out (read_expression l image at))) where
+  index_end : i ≡ end_of (read_expression l image at)
   unfolding indexed end_of
-  index_end = ap (λ (z : Copied). z.0.at) e ∙ go (read_expression l image at)
+  index_end = ap (λ (z : Copied). z.0) e ∙ go (read_expression l image at)
     where
-      go : (x : Parse Expression) → (indexed first c o out x).0.at ≡ end_of x
+      go : (x : Parse Expression) → (indexed first c o out x).0 ≡ end_of x
       go (got j n) = refl
       go (refused n p) = refl
 
-  pub value_read : ExpressionRead l image (end_of (read_expression l image at)) → ExpressionRead l image i.at
+  pub value_read : ExpressionRead l image (end_of (read_expression l image at)) → ExpressionRead l image i
   value_read f = rw index_end f
 
-  pub store_on : (a : Act) (p : ℕ) (t1 : List ℕ) (v : Spot) (t2 : List ℕ) (r : ℕ) (u : List ℕ) → ok (read_expression l image at) ≡ true
+  pub store_on : (a : Act) (p : ℕ) (t1 : List ℕ) (v vo : ℕ) (t2 : List ℕ) (r : ℕ) (u : List ℕ) → ok (read_expression l image at) ≡ true
       → ok (read_expression l image (end_of (read_expression l image at))) ≡ true
-      → ◌≡◌ {A = Output} (p, t1) (writes i.o t (prefix (secret_context a) (word_with 14 0) (act_of a)))
-      → ◌≡◌ {A = Copied} (v, t2) (copied first p t1 (read_expression l image i.at))
-      → ◌≡◌ {A = Output} (r, u) (kept_cell (secret_context a) first c v.o t2 (read_expression l image at))
-      → ◌≡◌ {A = Copied} (record { at = v.at; o = r }, u)
+      → ◌≡◌ {A = Output} (p, t1) (writes io t (prefix (secret_context a) (word_with 14 0) (act_of a)))
+      → ◌≡◌ {A = Copied} (v, (vo, t2)) (copied first p t1 (read_expression l image i))
+      → ◌≡◌ {A = Output} (r, u) (kept_cell (secret_context a) first c vo t2 (read_expression l image at))
+      → ◌≡◌ {A = Copied} (v, (r, u))
       (stored first c a o out (read_expression l image at) (read_expression l image (end_of (read_expression l image at))))
   unfolding indexed stored kept_cell
-  store_on a p t1 v t2 r u ok-x ok-y d f g =
+  store_on a p t1 v vo t2 r u ok-x ok-y d f g =
       let (j, n, q) = got_ok (read_expression l image at) ok-x in
       let (b, m, s) = got_ok (read_expression l image (end_of (read_expression l image at))) ok-y in
-      let h : read_expression l image i.at ≡ got b m = ap (λ z. read_expression l image z) index_end ∙ s in
-      let k : ◌≡◌ {A = Copied} (i, t) (spot n (writes o out (statement_word_with 1 c ∷ expression_words (moved first j)))) =
+      let h : read_expression l image i ≡ got b m = ap (λ z. read_expression l image z) index_end ∙ s in
+      let k : ◌≡◌ {A = Copied} (i, (io, t)) (spot n (writes o out (statement_word_with 1 c ∷ expression_words (moved first j)))) =
       e ∙ ap (λ z. indexed first c o out z) q in
-      copy_run o out v t2 _ m
-      (copy_copy o out i t (statement_word_with 1 c ∷ expression_words (moved first j)) n k
-      (prefix (secret_context a) (word_with 14 0) (act_of a) ++ expression_words (moved first b)) m (v, t2)
-      (value_on first (word_with 14 0) a i.o t (read_expression l image i.at) b m h p t1 (v, t2) d f))
-      (old_cell (secret_context a) c (moved first j)) r u (g ∙ ap (λ z. kept_cell (secret_context a) first c v.o t2 z) q)
+      copy_run o out v vo t2 _ m
+      (copy_copy o out i io t (statement_word_with 1 c ∷ expression_words (moved first j)) n k
+      (prefix (secret_context a) (word_with 14 0) (act_of a) ++ expression_words (moved first b)) m (v, (vo, t2))
+      (value_on first (word_with 14 0) a io t (read_expression l image i) b m h p t1 (v, (vo, t2)) d f))
+      (old_cell (secret_context a) c (moved first j)) r u (g ∙ ap (λ z. kept_cell (secret_context a) first c vo t2 z) q)
       ∙ ap (λ ws. spot m (writes o out ws)) (store_words (secret_context a) c (moved first j) (act_of a) (moved first b))
       ∙ ap (λ (z : Parse Expression). stored first c a o out z (got b m)) (sym q)
       ∙ ap (λ (z : Parse Expression). stored first c a o out (read_expression l image at) z) (sym s)
@@ -235,34 +234,34 @@ module _ (first l : ℕ) (image : List ℕ) (at c o : ℕ) (out : List ℕ) (i :
 -- ---- calls
 
 module _ (first o : ℕ) (out : List ℕ) (y : Parse (List Expression)) (ok-y : ok y ≡ true) where
-  pub call_head_lem : (f x w p : ℕ) (t : List ℕ) (r : Spot) (u : List ℕ) → w ≡ statement_word_with 5 (f * 256 + x) → ◌≡◌ {A = Output} (p, t) (write o out w)
-      → ◌≡◌ {A = Copied} (r, u) (copied_arguments first p t y) → ◌≡◌ {A = Copied} (r, u) (call_head first f x o out y)
+  pub call_head_lem : (f x w p : ℕ) (t : List ℕ) (r ro : ℕ) (u : List ℕ) → w ≡ statement_word_with 5 (f * 256 + x) → ◌≡◌ {A = Output} (p, t) (write o out w)
+      → ◌≡◌ {A = Copied} (r, (ro, u)) (copied_arguments first p t y) → ◌≡◌ {A = Copied} (r, (ro, u)) (call_head first f x o out y)
   unfolding call_head
-  call_head_lem f x w p t r u hw e g =
+  call_head_lem f x w p t r ro u hw e g =
       let (es, n, q) = got_ok y ok-y in
-      word_copy o out p t (statement_word_with 5 (f * 256 + x)) (argument_words (moved_all first es)) n (r, u)
+      word_copy o out p t (statement_word_with 5 (f * 256 + x)) (argument_words (moved_all first es)) n (r, (ro, u))
       (made o out p t (statement_word_with 5 (f * 256 + x)) w hw e) (g ∙ arguments_got first p t y es n q)
       ∙ ap (λ z. call_head first f x o out z) (sym q)
 
-  module _ (c : Call) (a : Act) (v : Spot) (t : List ℕ) (r : ℕ) (u : List ℕ) where
-    pub call_secret : secret_context a ≡ true → ◌≡◌ {A = Copied} (v, t) (call_head first c.called c.temporary o out y)
-        → ◌≡◌ {A = Output} (r, u) (writes v.o t (expression_words (act_of a) ++ selected_words c.result (act_of a) (word_with 10 c.temporary)))
-        → ◌≡◌ {A = Copied} (record { at = v.at; o = r }, u) (called first c a o out y)
+  module _ (c : Call) (a : Act) (v vo : ℕ) (t : List ℕ) (r : ℕ) (u : List ℕ) where
+    pub call_secret : secret_context a ≡ true → ◌≡◌ {A = Copied} (v, (vo, t)) (call_head first c.called c.temporary o out y)
+        → ◌≡◌ {A = Output} (r, u) (writes vo t (expression_words (act_of a) ++ selected_words c.result (act_of a) (word_with 10 c.temporary)))
+        → ◌≡◌ {A = Copied} (v, (r, u)) (called first c a o out y)
     unfolding call_head called
     call_secret h e g =
         let (es, n, q) = got_ok y ok-y in
-        copy_run o out v t (statement_word_with 5 (c.called * 256 + c.temporary) ∷ argument_words (moved_all first es)) n
+        copy_run o out v vo t (statement_word_with 5 (c.called * 256 + c.temporary) ∷ argument_words (moved_all first es)) n
         (e ∙ ap (λ z. call_head first c.called c.temporary o out z) q) _ r u g
         ∙ ap (λ ws. spot n (writes o out ws)) (call_words (secret_context a) c.guarded (act_of a) c.temporary c.called c.result (moved_all first es) h)
         ∙ ap (λ z. called first c a o out z) (sym q)
 
-    pub call_public : secret_context a ≡ false → ◌≡◌ {A = Copied} (v, t) (call_head first c.called c.result o out y)
-        → ◌≡◌ {A = Output} (r, u) (writes v.o t (pick c.guarded (word_with 9 1 ∷ []) []))
-        → ◌≡◌ {A = Copied} (record { at = v.at; o = r }, u) (called first c a o out y)
+    pub call_public : secret_context a ≡ false → ◌≡◌ {A = Copied} (v, (vo, t)) (call_head first c.called c.result o out y)
+        → ◌≡◌ {A = Output} (r, u) (writes vo t (pick c.guarded (word_with 9 1 ∷ []) []))
+        → ◌≡◌ {A = Copied} (v, (r, u)) (called first c a o out y)
     unfolding call_head called
     call_public h e g =
         let (es, n, q) = got_ok y ok-y in
-        copy_run o out v t (statement_word_with 5 (c.called * 256 + c.result) ∷ argument_words (moved_all first es)) n
+        copy_run o out v vo t (statement_word_with 5 (c.called * 256 + c.result) ∷ argument_words (moved_all first es)) n
         (e ∙ ap (λ z. call_head first c.called c.result o out z) q) _ r u g
         ∙ ap (λ ws. spot n (writes o out ws)) (plain_call_words (secret_context a) c.guarded (act_of a) c.temporary c.called c.result (moved_all first es) h)
         ∙ ap (λ z. called first c a o out z) (sym q)

@@ -1,72 +1,51 @@
 -- Rules for the lines of words. Assumes nothing.
 use mathlib.Core.Path.{◌≡◌, refl, sym, ap, ◌∙◌}
-use mathlib.Core.Bool.{Bool, true, false}
-use mathlib.Core.List.{List, [], ◌∷◌, ◌++◌}
-use Prim.Native.Nat.{ℕ, suc, ◌+◌, ◌-◌, ◌*◌, ◌/◌, ◌%◌, ◌≤◌, ◌<◌}
+use mathlib.Core.List.{List, [], ◌∷◌, ◌++◌, append_assoc, append-nil}
+use Prim.Native.Nat.{ℕ, zero, suc, ◌+◌, ◌*◌, ◌≤◌, ◌<◌}
 use native.Mathlib.Numerals.{add-one}
 use native.Mathlib.Omega.{arith}
-use borrow.Author.Tests.{leb-true, leb-false}
-use lib.Dec.{leb}
-use lib.ListN.{length, get_or, take, drop, set, get_or-append}
-use lib.Seq.{take-suc, take-suc-set, take_all, get_or-take, get_or-append-add, length-take-le, drop-set-lt, drop-drop}
+use lib.ListN.{length, get_or, take, drop, set}
+use lib.Seq.{paste, take-paste, drop-paste, length-paste, drop-set-lt, drop-drop}
 use Rattle.definitions.specs.Bytes.{word_at, words_of}
 use Rattle.laws.specs.WordsOfBytes.{length_words_of, get_d_words_of}
 use Rattle.printing.specs.Text.{word_line, listing}
 
-length_listing : (ws : List ℕ) → length (listing ws) ≡ 9 * length ws
-unfolding listing
-length_listing [] = refl
-length_listing (w ∷ ws) = rw (length_listing ws) (omega arith)
+length_line : (w : ℕ) → length (word_line w) ≡ 9
+length_line w = refl
 
-get_d_listing : (ws : List ℕ) (j : ℕ) → j < 9 * length ws → get_or (listing ws) j 0 ≡ get_or (word_line (get_or ws (j / 9) 0)) (j % 9) 0
+-- one word more is one line more
+listing_more : (ws : List ℕ) (j : ℕ) → j < length ws → listing (take (suc j) ws) ≡ listing (take j ws) ++ word_line (get_or ws j 0)
 unfolding listing
-get_d_listing [] j h = absurd (omega arith)
-get_d_listing (w ∷ ws) j h = go (leb 9 j) refl (λ i. get_d_listing ws i)
-  where
-    go : (t : Bool) → leb 9 j ≡ t → ((i : ℕ) → i < 9 * length ws → get_or (listing ws) i 0 ≡ get_or (word_line (get_or ws (i / 9) 0)) (i % 9) 0)
-        → get_or (word_line w ++ listing ws) j 0 ≡ get_or (word_line (get_or (w ∷ ws) (j / 9) 0)) (j % 9) 0
-    go true e more =
-        let n : 9 ≤ j = leb-true 9 j e in
-        let i : j ≡ 9 + (j - 9) = omega arith in
-        let q : j / 9 ≡ suc ((j - 9) / 9) = omega arith in
-        let m : j % 9 ≡ (j - 9) % 9 = omega arith in
-        ap (λ k. get_or (word_line w ++ listing ws) k 0) i ∙ get_or-append-add (word_line w) (listing ws) (j - 9) 0
-        ∙ more (j - 9) (omega arith) ∙ rw (q, m)
-    go false e more =
-        let n : j < 9 = leb-false 9 j e in
-        let q : j / 9 ≡ 0 = omega arith in
-        let m : j % 9 ≡ j = omega arith in
-        get_or-append (word_line w) (listing ws) 0 j n ∙ rw (q, m)
+listing_more [] j h = absurd (omega arith)
+listing_more (w ∷ ws) zero h = append-nil (word_line w)
+listing_more (w ∷ ws) (suc j) h =
+    rw (listing_more ws j (omega arith)) (sym (append_assoc (word_line w) (listing (take j ws)) (word_line (get_or ws j 0))))
 
-module _ (b : List ℕ) (n : ℕ) (room : 4 * n ≤ length b) where
+-- after j lines: how long the text is, what stands in it, what stands behind
+abbrev pub Lines : List ℕ → List ℕ → List ℕ → ℕ → Type 0
+Lines before b text j = (length text ≡ length before) × (take (9 * j) text ≡ listing (take j (words_of b))) × (drop (9 * j) text ≡ drop (9 * j) before)
+
+module _ (before b : List ℕ) (n : ℕ) (room : 4 * n ≤ length b) (long : 9 * n ≤ length before) where
   few : n ≤ length (words_of b)
   few = rw length_words_of (omega arith)
 
-  size : length (listing (take n (words_of b))) ≡ 9 * n
-  size = rw (length_listing, length-take-le n (words_of b) few)
+  below : (j : ℕ) → j < n → j < length (words_of b)
+  below j h = let f = few in omega arith
 
-  pub line_more : (text : List ℕ) (j w v : ℕ) → j < 9 * n → j < length text → w ≡ word_at b (j / 9) → v ≡ get_or (word_line w) (j % 9) 0
-      → take j text ≡ take j (listing (take n (words_of b))) → take (j + 1) (set text j v) ≡ take (j + 1) (listing (take n (words_of b)))
-  line_more text j w v h l e q t =
-      let s = size in
-      let long : j < length (listing (take n (words_of b))) = omega arith in
-      let count : length (take n (words_of b)) ≡ n = length-take-le n (words_of b) few in
-      let here : get_or (listing (take n (words_of b))) j 0 ≡ v =
-      get_d_listing (take n (words_of b)) j (omega arith)
-      ∙ rw (get_or-take n (words_of b) (j / 9) 0 (omega arith), get_d_words_of b (j / 9) (omega arith), ← e) (sym q) in
-      rw (add-one, take-suc-set text j v l, take-suc (listing (take n (words_of b))) j 0 long, t, here)
-
-  pub lines_whole : (text : List ℕ) (j : ℕ) → 9 * n ≤ j → j ≤ 9 * n → take j text ≡ take j (listing (take n (words_of b)))
-      → take (9 * n) text ≡ listing (take n (words_of b))
-  lines_whole text j g h t =
-      let s = size in
-      let e : 9 * n ≡ j = omega arith in
-      rw e (t ∙ take_all j (listing (take n (words_of b))) (omega arith))
+  pub line_more : (text after : List ℕ) (j w : ℕ) → j < n → w ≡ word_at b j → after ≡ paste text (9 * j) (word_line w) 9
+      → Lines before b text j → Lines before b after (j + 1)
+  line_more text after j w h q e (l, t, d) =
+      let m : 9 * (j + 1) ≡ 9 * j + 9 = omega arith in
+      let k : j < length (words_of b) = below j h in
+      let front : take (9 * j + 9) after ≡ listing (take (j + 1) (words_of b)) =
+      ap (take (9 * j + 9)) e ∙ take-paste text (9 * j) (word_line w) 9 (omega arith) (omega arith)
+      ∙ rw (add-one, listing_more (words_of b) j k, t, get_d_words_of b j (omega arith), ← q) in
+      let behind : drop (9 * j + 9) after ≡ drop (9 * j + 9) before =
+      ap (drop (9 * j + 9)) e ∙ drop-paste text (9 * j) (word_line w) 9 (omega arith) (omega arith)
+      ∙ sym (drop-drop 9 (9 * j) text) ∙ ap (drop 9) d ∙ drop-drop 9 (9 * j) before in
+      (ap length e ∙ length-paste text (9 * j) (word_line w) 9 (omega arith) (omega arith) ∙ l, rw m front, rw m behind)
 
 -- behind what was written stands what stood there
 pub behind_more : (text before : List ℕ) (j v : ℕ) → drop j text ≡ drop j before → drop (j + 1) (set text j v) ≡ drop (j + 1) before
 behind_more text before j v e =
     drop-set-lt (j + 1) text j v (omega arith) ∙ sym (drop-drop 1 j text) ∙ ap (λ (x : List ℕ). drop 1 x) e ∙ drop-drop 1 j before
-
-pub lines_behind : (n j : ℕ) (text before : List ℕ) → 9 * n ≤ j → j ≤ 9 * n → drop j text ≡ drop j before → drop (9 * n) text ≡ drop (9 * n) before
-lines_behind n j text before g h e = let s : 9 * n ≡ j = omega arith in rw s e

@@ -9,7 +9,11 @@ ghost use Rattle.printing.specs.Text.{hex_digit, word_line, listing, decimal_tex
 
 use definitions::Compiled;
 
+// The characters of a line: eight digits and the line's end.
+const LINE: usize = 9;
+
 // The character of a hexadecimal digit.
+#[tactic(auto, using(crate::proofs::DigitRules::low_digit, crate::proofs::DigitRules::high_digit))]
 fn digit(d: u32) -> u8
     requires { d < 16 }
     ensures { result ≡ hex_digit d }
@@ -20,36 +24,29 @@ fn digit(d: u32) -> u8
     (55 + d) as u8
 }
 
-// The character at an index of a word's line.
-fn line_byte(w: u32, k: usize) -> u8
-    requires { k < 9 }
-    ensures { result ≡ get_or (word_line w) k 0 }
+// The line of a word.
+fn line_of(w: u32) -> [u8; LINE]
+    ensures { result ≡ word_line w }
 {
-    if k < 1 {
-        return digit(w / 268435456);
-    }
-    if k < 2 {
-        return digit(w / 16777216 % 16);
-    }
-    if k < 3 {
-        return digit(w / 1048576 % 16);
-    }
-    if k < 4 {
-        return digit(w / 65536 % 16);
-    }
-    if k < 5 {
-        return digit(w / 4096 % 16);
-    }
-    if k < 6 {
-        return digit(w / 256 % 16);
-    }
-    if k < 7 {
-        return digit(w / 16 % 16);
-    }
-    if k < 8 {
-        return digit(w % 16);
-    }
-    10
+    [
+        digit(w / 268435456),
+        digit(w / 16777216 % 16),
+        digit(w / 1048576 % 16),
+        digit(w / 65536 % 16),
+        digit(w / 4096 % 16),
+        digit(w / 256 % 16),
+        digit(w / 16 % 16),
+        digit(w % 16),
+        b'\n',
+    ]
+}
+
+// Characters go to the place `at` and those after it.
+fn copy(characters: &[u8], text: &mut [u8], at: usize)
+    requires { at + length characters.now ≤ length text.old }
+    ensures { text.new ≡ paste text.old at characters.now (length characters.now) }
+{
+    text[at..at + characters.len()].copy_from_slice(characters);
 }
 
 // A line for each of the first n words.
@@ -58,25 +55,11 @@ fn put_listing(bytes: &[u8], n: usize, text: &mut [u8]) -> usize
     ensures { (result ≤ length text.new) × (take result text.new ≡ listing (take n (words_of bytes.now)))
         × (drop result text.new ≡ drop result text.old) }
 {
-    let end = 9 * n;
-    let mut j = 0;
-    while j < end {
-        text[j] = line_byte(words::word(bytes, j / 9), j % 9);
-        j += 1;
+    for j in 0..n {
+        let line = line_of(words::word(bytes, j));
+        copy(&line, text, LINE * j);
     }
-    end
-}
-
-// The digits go to the place `at` and those after it.
-fn copy(digits: &[u8], text: &mut [u8], at: usize)
-    requires { at + length digits.now ≤ length text.old }
-    ensures { text.new ≡ paste text.old at digits.now (length digits.now) }
-{
-    let mut i = 0;
-    while i < digits.len() {
-        text[at + i] = digits[i];
-        i += 1;
-    }
+    LINE * n
 }
 
 // A number in decimal behind the first `at` characters; answers where it ends.
@@ -97,10 +80,10 @@ fn put_refusal(number: u32, place: usize, text: &mut [u8]) -> usize
     ensures { (result ≤ length text.new) × (take result text.new ≡ refusal_line number place)
         × (drop result text.new ≡ drop result text.old) }
 {
-    let a = put_number(number as u64, text, 0);
-    text[a] = 32;
+    let a = put_number(u64::from(number), text, 0);
+    text[a] = b' ';
     let b = put_number(place as u64, text, a + 1);
-    text[b] = 10;
+    text[b] = b'\n';
     b + 1
 }
 

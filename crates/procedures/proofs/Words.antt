@@ -4,30 +4,13 @@ use mathlib.Core.Bool.{Bool, true, false}
 use mathlib.Core.List.{List, [], ◌∷◌, ◌++◌}
 use mathlib.Core.Path.{◌≡◌, sym, ap, ◌∙◌}
 use native.Mathlib.Omega.{arith}
-use native.Mathlib.Numerals.{add-one}
-use lib.ListN.{length, get_or, take, drop, replicate, length-drop}
-use lib.Seq.{drop-cons, take_all}
+use lib.ListN.{length, take, drop, replicate, length-drop}
+use lib.Seq.{take_all}
 use Rattle.definitions.specs.Choice.{pick}
 use Rattle.definitions.specs.Encoding.{word_with, statement_word_with}
 use Rattle.definitions.specs.Compiling.{secret_of, secret_boolean, pair_types}
 use Rattle.writer.specs.Writing.{Output, write, writes}
-use Rattle.writer.specs.Laws.{writes_nil, writes_on, writes_one, writes_app, run_run}
-
-module _ (words : List ℕ) (to j p : ℕ) (out : List ℕ) (X : Output) (u : writes p out (take (to - j) (drop j words)) ≡ X) where
-  pub copy_done : to ≤ j → ◌≡◌ {A = Output} (p, out) X
-  copy_done h =
-      let z : to - j ≡ 0 = omega arith in
-      sym (ap (λ k. writes p out (take k (drop j words))) z ∙ writes_nil p out) ∙ u
-
-  pub copy_more : (q : ℕ) (t : List ℕ) → j < to → to ≤ length words → ◌≡◌ {A = Output} (q, t) (write p out (get_or words j 0))
-      → writes q t (take (to - (j + 1)) (drop (j + 1) words)) ≡ X
-  copy_more q t h b e =
-      let z : to - j ≡ suc (to - (j + 1)) = omega arith in
-      let d : drop j words ≡ get_or words j 0 ∷ drop (suc j) words = drop-cons words j 0 (omega arith) in
-      ap (λ (y : Output). writes y.0 y.1 (take (to - (j + 1)) (drop (j + 1) words))) e
-      ∙ ap (λ k. writes (write p out (get_or words j 0)).0 (write p out (get_or words j 0)).1 (take (to - (j + 1)) (drop k words))) (add-one j)
-      ∙ sym (writes_on p out (get_or words j 0) (take (to - (j + 1)) (drop (suc j) words)))
-      ∙ sym (ap (λ k. writes p out (take k (drop j words))) z ∙ ap (λ l. writes p out (take (suc (to - (j + 1))) l)) d) ∙ u
+use Rattle.writer.specs.Laws.{writes_nil, writes_one, writes_app, run_run}
 
 pub pairs_begin : (levels p : ℕ) (out : List ℕ) → writes p out (pair_types (levels - 0)) ≡ writes p out (pair_types levels)
 pairs_begin levels p out = let z : levels - 0 ≡ levels = omega arith in ap (λ k. writes p out (pair_types k)) z
@@ -55,8 +38,9 @@ module _ (o : ℕ) (out : List ℕ) (b : Bool) where
   pub chosen_word : (w r : ℕ) (t : List ℕ) → b ≡ true → ◌≡◌ {A = Output} (r, t) (write o out w) → ◌≡◌ {A = Output} (r, t) (writes o out (pick b (w ∷ []) []))
   chosen_word w r t h e = rw h (e ∙ sym (writes_one o out w))
 
-  pub chosen_two : (v w r : ℕ) (t : List ℕ) → b ≡ true → ◌≡◌ {A = Output} (r, t) (writes o out (v ∷ (w ∷ []))) → ◌≡◌ {A = Output} (r, t) (writes o out (pick b (v ∷ (w ∷ [])) []))
-  chosen_two v w r t h e = rw h e
+  pub chosen_run : (ws : List ℕ) (r : ℕ) (t : List ℕ) → b ≡ true → ◌≡◌ {A = Output} (r, t) (writes o out ws)
+      → ◌≡◌ {A = Output} (r, t) (writes o out (pick b ws []))
+  chosen_run ws r t h e = rw h e
 
   pub chosen_none : (ws : List ℕ) → b ≡ false → ◌≡◌ {A = Output} (o, out) (writes o out (pick b ws []))
   chosen_none ws h = rw h (sym (writes_nil o out))
@@ -71,11 +55,10 @@ module _ (o : ℕ) (out : List ℕ) (b : Bool) where
     last_on h e f = rw h (f ∙ ap (λ (z : ℕ). writes o out (statement_word_with 4 0 ∷ (z ∷ []))) e)
 
 pub kept_on : (types : List ℕ) (o : ℕ) (out : List ℕ) (n : ℕ) (g : Bool) (a : ℕ) (t1 : List ℕ) (b : ℕ) (t2 : List ℕ) (r : ℕ) (t3 : List ℕ)
-    → ◌≡◌ {A = Output} (a, t1) (writes o out (take (n - 0) (drop 0 types))) → ◌≡◌ {A = Output} (b, t2) (writes a t1 (pick g (secret_boolean ∷ []) []))
+    → ◌≡◌ {A = Output} (a, t1) (writes o out (take n types)) → ◌≡◌ {A = Output} (b, t2) (writes a t1 (pick g (secret_boolean ∷ []) []))
     → ◌≡◌ {A = Output} (r, t3) (writes b t2 (take (length types - n) (drop n types)))
     → ◌≡◌ {A = Output} (r, t3) (writes o out (take n types ++ (pick g (secret_boolean ∷ []) [] ++ drop n types)))
 kept_on types o out n g a t1 b t2 r t3 e f h =
-    let z : n - 0 ≡ n = omega arith in
     let y : take (length types - n) (drop n types) ≡ drop n types = take_all (length types - n) (drop n types) (omega (arith, length-drop n types)) in
-    run_run o out a t1 (take n types) (pick g (secret_boolean ∷ []) [] ++ drop n types) (r, t3) (e ∙ ap (λ k. writes o out (take k types)) z)
+    run_run o out a t1 (take n types) (pick g (secret_boolean ∷ []) [] ++ drop n types) (r, t3) e
     (run_run a t1 b t2 (pick g (secret_boolean ∷ []) []) (drop n types) (r, t3) f (h ∙ ap (λ l. writes b t2 l) y))

@@ -3,37 +3,30 @@ use Rattle.std.specs.Prelude.{ℕ, ◌+◌, ◌*◌, ◌-◌, List, [], ◌∷�
 use Rattle.definitions.specs.Choice.{pick}
 use Rattle.definitions.specs.Operators.{word_sort, boolean_sort}
 use Rattle.definitions.specs.Image.{guarded, Block, Procedure}
-use Rattle.definitions.specs.Encoding.{word_with, statement_count}
+use Rattle.definitions.specs.Encoding.{word_with}
 use Rattle.definitions.specs.Compiling.{secret_boolean, defers, levels, pair_types, needed, temporary_types, compiled_types, compiled_body, compiled_procedure}
 use Rattle.laws.specs.ImageIn.{image_in, procedures_in}
-use Rattle.tables.specs.Table.{body_in}
-use Rattle.tables.specs.Looking.{Listed, procedure_in}
-use Rattle.writer.specs.Writing.{Output}
+use Rattle.tables.specs.Looking.{procedure_in}
 use Rattle.procedures.specs.declared.Source.{Source}
 use Rattle.procedures.specs.declared.Numbers.{Numbers}
-use Rattle.procedures.specs.declared.Part.{Part}
 
 -- what there is to know of a procedure
-abbrev pub source_of : List ℕ → List ℕ → ℕ → Source
-source_of image table f =
+abbrev pub source_of : List ℕ → ℕ → Source
+source_of image f =
     record {
-      me = f;
       guarded = guarded (procedure_in image f);
       parameters = (procedure_in image f).parameters;
       result = (procedure_in image f).result;
-      body = body_in table f;
       defers = defers (image_in image).arrays (procedure_in image f);
       levels = levels (image_in image).arrays (procedure_in image f);
       words = needed (procedures_in image) (image_in image).arrays (procedure_in image f) word_sort;
       booleans = needed (procedures_in image) (image_in image).arrays (procedure_in image f) boolean_sort;
     }
 
--- what is told of a procedure of form 0 is so, and the type words are those of its variables
-pub record Described (image table types : List ℕ) (p : Source) : Type 0 where
-  pub listed : Listed image table p.me
+-- what is told of a procedure of form 0 is so
+pub record Described (image : List ℕ) (f : ℕ) (p : Source) : Type 0 where
   pub source_form : (image_in image).form ≡ 0
-  pub types_are : types ≡ (procedure_in image p.me).types
-  pub source_is : p ≡ source_of image table p.me
+  pub source_is : p ≡ source_of image f
 
 -- the variables of the compiled procedure, where the source has so many
 abbrev pub numbers_of : Source → ℕ → Numbers
@@ -67,10 +60,3 @@ body_for image f = compiled_body (procedures_in image) (image_in image).arrays (
 
 abbrev pub procedure_for : List ℕ → ℕ → Procedure
 procedure_for image f = compiled_procedure (procedures_in image) (image_in image).arrays (procedure_in image f)
-
--- the answer of a part, with the output afterwards
-abbrev pub Partial : Type 0
-Partial = Part × List ℕ
-
-abbrev pub part : List ℕ → ℕ → Output → Partial
-part image f z = (record { o = z.0; n = statement_count (body_for image f) }, z.1)

@@ -1,34 +1,77 @@
--- The ways in which the functions that read an image return, and what their loops keep. Assumes nothing.
+-- What the functions that read an image read, step by step, and what they keep of the tables. Assumes nothing.
 use mathlib.Core.Path.{◌≡◌, refl, sym, ap, ◌∙◌}
 use mathlib.Core.Bool.{Bool, true, false, not, ◌&&◌}
-use mathlib.Core.List.{List, [], ◌∷◌, ◌++◌, append_assoc}
-use Prim.Native.Nat.{ℕ, suc, ◌+◌, ◌-◌, ◌≤◌, ◌<◌}
+use mathlib.Core.List.{List, [], ◌∷◌, ◌++◌, append_assoc, append-nil}
+use Prim.Native.Nat.{ℕ, ◌+◌, ◌-◌, ◌≤◌, ◌<◌}
 use native.Mathlib.Omega.{arith}
-use borrow.Author.Tests.{leb-true, eq-eqb, ne_eqb, not-true, not-false}
+use borrow.Author.Tests.{leb-true, eq-eqb, ne_eqb}
 use lib.Dec.{eqb, leb}
 use lib.ListN.{length, get_or, set, replicate, length-append}
 use lib.Seq.{get_or-set_other}
+use Rattle.std.specs.Prelude.{Result, Ok, is_err}
 use Rattle.definitions.specs.Choice.{pick}
+use Rattle.definitions.specs.declared.Fault.{Fault}
 use Rattle.definitions.specs.Image.{header_word, form_of, arrays_of, procedures_of, largest_image, parameters_of, locals_of}
 use Rattle.definitions.specs.Image.{Procedure, Image}
 use Rattle.definitions.specs.Reading.{Parse, got, refused, and_then, read_arrays, read_procedure, read_procedures, read_rest}
 use Rattle.definitions.specs.Reading.{read_image}
-use Rattle.laws.specs.Tests.{and_right}
+use Rattle.laws.specs.Tests.{and_right, false_true}
 use Rattle.laws.specs.Parses.{got_same}
 use Rattle.laws.specs.WordTests.{header_limits}
 use Rattle.laws.specs.ReadImages.{open_procedure}
 use Rattle.tables.specs.Table.{padded, body_place, table_of, arrays_in, params_in}
 use Rattle.tables.specs.Filling.{table_none, table_procedure, table_params, params_more}
 use Rattle.tables.specs.Looking.{table_arrays}
-use Rattle.reader.specs.declared.Read.{Read}
-use Rattle.reader.specs.declared.Read.TheVariants.{At, Refused}
-use Rattle.reader.specs.Answers.{answer}
+use Rattle.reader.specs.Answers.{answer, ensured}
+use Rattle.reader.specs.AnswerLaws.{got_of}
 use Rattle.reader.specs.Ends.{Sound, BlockEnds, sound_ends, later_sound, zeros_sound}
 use Rattle.reader.specs.Left.{Begun, ArraysLeft, ProceduresLeft, Tables, ImageLeft, TablesLeft}
-use Rattle.reader.specs.AnswerLaws.{got_of, refused_of, answer_got, answer_refused}
-use Rattle.reader.proofs.Answers.{one_more, answer_last, not_got, append_none}
+use Rattle.reader.proofs.Steps.{◌>>=◌, answer_then, answer_last, one_more, not_read}
 
 -- ---- the procedures
+
+pub header_form : (w : ℕ) → header_word w ≡ true → form_of w < 2
+header_form w h = (header_limits w h).1
+
+pub header_arrays : (w : ℕ) → header_word w ≡ true → arrays_of w ≤ 16
+header_arrays w h = (header_limits w h).2
+
+pub header_procedures : (w : ℕ) → header_word w ≡ true → procedures_of w ≤ 32
+header_procedures w h = (header_limits w h).4
+
+module _ (form : ℕ) (params : List ℕ) (me : ℕ) (image : List ℕ) where
+  pub procedures_none : (n at : ℕ) → n ≡ 0 → answer (read_procedures n form params me image at) ≡ Ok at
+  unfolding read_procedures answer
+  procedures_none n at e = rw e
+
+  pub procedures_more : (n k at : ℕ) → k < n
+      → answer (read_procedures (n - k) form params me image at)
+      ≡ (answer (read_procedure form params me image at)
+      >>= λ m. answer (read_procedures (n - (k + 1)) form (set params me (parameters_of (get_or image at 0))) (me + 1) image m))
+  unfolding read_procedures answer
+  procedures_more n k at h = rw (one_more n k h) (go (read_procedure form params me image at) refl)
+    where
+      go : (x : Parse Procedure) → read_procedure form params me image at ≡ x
+          → answer (and_then x (λ p m. and_then (read_procedures (n - (k + 1)) form (set params me p.parameters) (me + 1) image m) (λ ps o. got (p ∷ ps) o)))
+          ≡ (answer x >>= λ m. answer (read_procedures (n - (k + 1)) form (set params me (parameters_of (get_or image at 0))) (me + 1) image m))
+      go (got p m) e =
+          answer_last (read_procedures (n - (k + 1)) form (set params me p.parameters) (me + 1) image m) (λ ps. p ∷ ps)
+          ∙ ap (λ (y : ℕ). answer (read_procedures (n - (k + 1)) form (set params me y) (me + 1) image m)) (open_procedure form params me image at p m e).parameters
+      go (refused m q) e = refl
+
+  -- a procedure that was read begins within the image
+  pub procedure_inside : (at next : ℕ) → Ok next ≡ answer (read_procedure form params me image at) → at < length image
+  procedure_inside at next e =
+      let (p, q) = got_of _ _ next e refl in
+      let b = (open_procedure form params me image at p next q).begins in omega arith
+
+-- a refusal leaves nothing to say
+pub procedures_refused : (form count : ℕ) (image start : List ℕ) (first : ℕ) (table ends : List ℕ)
+    → is_err (answer (read_procedures count form (params_in start) 0 image first)) ≡ true → ProceduresLeft form count image start first table ends
+unfolding ProceduresLeft
+procedures_refused form count image start first table ends e ps n g = not_read _ ps n e g
+
+pub ruleset procedures_rules = (header_form, header_procedures, procedures_none, procedures_more, procedure_inside, procedures_refused)
 
 -- What the loop over the procedures keeps: those read so far are in the table, and the rest is read behind them.
 pub record Progress (form count : ℕ) (image start : List ℕ) (first : ℕ) (table ends : List ℕ) (me at : ℕ) : Type 0 where
@@ -39,7 +82,6 @@ pub record Progress (form count : ℕ) (image start : List ℕ) (first : ℕ) (t
   pub sound : Sound image (params_in table) me ends
   pub left : (ps : List Procedure) (n : ℕ) → read_procedures (count - me) form (params_in table) me image at ≡ got ps n
       → read_procedures count form (params_in start) 0 image first ≡ got (read ++ ps) n
-  pub shown : answer 0 (read_procedures (count - me) form (params_in table) me image at) ≡ answer 0 (read_procedures count form (params_in start) 0 image first)
 
 pub progress_begin : (form count : ℕ) (image table ends : List ℕ) (at : ℕ) → Begun table → Sound image (params_in table) 0 ends
     → Progress form count image table at table ends 0 at
@@ -52,19 +94,7 @@ progress_begin form count image table ends at b s =
       filled = b.1;
       sound = s;
       left = λ ps n r. ap (λ z. read_procedures z form (params_in table) 0 image at) (sym e) ∙ r;
-      shown = ap (λ z. answer 0 (read_procedures z form (params_in table) 0 image at)) e;
     }
-
-none_here : (form : ℕ) (params : List ℕ) (me : ℕ) (image : List ℕ) (at n : ℕ) → n ≡ 0 → read_procedures n form params me image at ≡ got [] at
-unfolding read_procedures
-none_here form params me image at n e = rw e
-
-one_here : (form : ℕ) (params : List ℕ) (me : ℕ) (image : List ℕ) (at n k : ℕ) → k ≡ suc n
-    → read_procedures k form params me image at
-    ≡ and_then (read_procedure form params me image at)
-    (λ p m. and_then (read_procedures n form (set params me p.parameters) (me + 1) image m) (λ ps o. got (p ∷ ps) o))
-unfolding read_procedures
-one_here form params me image at n k e = rw e
 
 module _ (form count : ℕ) (image start : List ℕ) (first : ℕ) (table ends : List ℕ) (me at : ℕ)
     (s : Progress form count image start first table ends me at) where
@@ -72,249 +102,162 @@ module _ (form count : ℕ) (image start : List ℕ) (first : ℕ) (table ends :
   abbrev params : List ℕ
   params = params_in table
 
-  pub progress_sound : Sound image params me ends
-  progress_sound = s.sound
-
-  -- all were read
-  pub procedures_done : count ≤ me → At 0 at ≡ answer 0 (read_procedures count form (params_in start) 0 image first)
-  procedures_done h =
-      answer_got 0 (read_procedures (count - me) form params me image at) [] at (none_here form params me image at (count - me) (omega arith))
-      ∙ s.shown
-
-  pub procedures_kept : count ≤ me → ProceduresLeft form count image start first table ends
-  unfolding ProceduresLeft
+  pub procedures_kept : me ≡ count → ProceduresLeft form count image start first table ends
+  unfolding ProceduresLeft read_procedures
   procedures_kept h ps n r =
-      let all = s.left [] at (none_here form params me image at (count - me) (omega arith)) in
+      let none : count - me ≡ 0 = omega arith in
+      let all = s.left [] at (rw none) in
       let (e, _) = got_same (read_procedures count form (params_in start) 0 image first) (s.read ++ []) ps at n all r in
-      (rw (sym e ∙ append_none s.read) s.filled, sound_ends image params me ends s.sound)
+      (rw (sym e ∙ append-nil s.read) s.filled, sound_ends image params me ends s.sound)
 
-  module _ (h : me < count) (r : Read) (e : r ≡ answer (get_or image at 0) (read_procedure form params me image at)) where
-    behind : Parse Procedure → Parse (List Procedure)
-    behind z = and_then z (λ p m. and_then (read_procedures (count - (me + 1)) form (set params me p.parameters) (me + 1) image m) (λ ps o. got (p ∷ ps) o))
+  -- one was read: its entries are its place, its body's place, its number of parameters
+  module _ (h : me < count) (most : count ≤ 32) (next : ℕ) (e : Ok next ≡ answer (read_procedure form params me image at))
+      (x v : ℕ) (hx : x ≡ parameters_of (get_or image at 0) + locals_of (get_or image at 0)) (hv : v ≡ parameters_of (get_or image at 0))
+      (table' : List ℕ) (st : table' ≡ set (set (set table (33 + me) at) (65 + me) (at + 1 + 1 + x)) (97 + me) v) where
+    entered : (p : Procedure) → read_procedure form params me image at ≡ got p next
+        → (table' ≡ table_of (arrays_in start) (s.read ++ (p ∷ []))) × (p.parameters ≡ v)
+        × (params_in (table_of (arrays_in start) (s.read ++ (p ∷ []))) ≡ set (params_in (table_of (arrays_in start) s.read)) me p.parameters)
+    entered p q =
+        let o = open_procedure form params me image at p next q in
+        let l = s.passed in
+        let body : body_place p ≡ at + 1 + 1 + x = ap (λ z. z + 1 + 1 + length p.types) o.place ∙ ap (λ z. at + 1 + 1 + z) (o.types.count ∙ sym hx) in
+        let arity : p.parameters ≡ v = o.parameters ∙ sym hv in (
+          st ∙ ap (λ (y : List ℕ). set (set (set y (33 + me) at) (65 + me) (at + 1 + 1 + x)) (97 + me) v) s.filled
+              ∙ sym (ap (λ (y : ℕ). set (set (set (table_of (arrays_in start) s.read) (33 + me) y) (65 + me) (body_place p)) (97 + me) p.parameters) o.place
+              ∙ ap (λ (y : ℕ). set (set (set (table_of (arrays_in start) s.read) (33 + me) at) (65 + me) y) (97 + me) p.parameters) body
+              ∙ ap (λ (y : ℕ). set (set (set (table_of (arrays_in start) s.read) (33 + me) at) (65 + me) (at + 1 + 1 + x)) (97 + me) y) arity)
+              ∙ table_procedure (arrays_in start) s.read p me (sym s.passed) s.few (omega arith),
+          arity,
+          params_more (arrays_in start) s.read p me (sym s.passed) s.few (omega arith),
+        )
 
-    turn : read_procedures (count - me) form params me image at ≡ behind (read_procedure form params me image at)
-    unfolding behind
-    turn = one_here form params me image at (count - (me + 1)) (count - me) (one_more count me h)
+    arity_known : (p : Procedure) → read_procedure form params me image at ≡ got p next → params_in table' ≡ set params me p.parameters
+    arity_known p q =
+        let (t, a, m) = entered p q in ap params_in t ∙ m ∙ ap (λ (y : List ℕ). set (params_in y) me p.parameters) (sym s.filled)
 
-    -- one was refused
-    module _ (m q : ℕ) (d : r ≡ Refused m q) where
-      refusal : read_procedures (count - me) form params me image at ≡ refused m q
-      unfolding behind
-      refusal = turn ∙ ap behind (refused_of (get_or image at 0) (read_procedure form params me image at) r m q e d)
+    params_after : params_in table' ≡ set params me (parameters_of (get_or image at 0))
+    params_after =
+        let (p, q) = got_of _ _ next e refl in
+        let (t, a, m) = entered p q in arity_known p q ∙ ap (λ (y : ℕ). set params me y) (a ∙ hv)
 
-      pub procedures_bad : r ≡ answer 0 (read_procedures count form (params_in start) 0 image first)
-      procedures_bad = d ∙ answer_refused 0 (read_procedures (count - me) form params me image at) m q refusal ∙ s.shown
+    turn : (p : Procedure) → read_procedure form params me image at ≡ got p next
+        → read_procedures (count - me) form params me image at
+        ≡ and_then (read_procedures (count - (me + 1)) form (set params me p.parameters) (me + 1) image next) (λ ps o. got (p ∷ ps) o)
+    unfolding read_procedures
+    turn p q = rw (one_more count me h, q)
 
-      pub procedures_bad_kept : (table' ends' : List ℕ) → ProceduresLeft form count image start first table' ends'
-      unfolding ProceduresLeft
-      procedures_bad_kept table' ends' ps n g =
-          not_got (read_procedures count form (params_in start) 0 image first) m q ps n
-          (refused_of 0 (read_procedures count form (params_in start) 0 image first) r m q procedures_bad d) g
+    shown_more : (whole : Result ℕ Fault) → answer (read_procedures (count - me) form params me image at) ≡ whole
+        → answer (read_procedures (count - (me + 1)) form (params_in table') (me + 1) image next) ≡ whole
+    shown_more whole shown = rw params_after (rw (procedures_more form params me image count me at h, ← e) at shown)
 
-    -- one was read
-    module _ (w next : ℕ) (d : r ≡ At w next) where
-      pub place_small : length image ≤ 16384 → at < 16384
-      place_small l =
-          let (p, q) = got_of (get_or image at 0) (read_procedure form params me image at) r w next e d in
-          let b = (open_procedure form params me image at p next q).begins in omega arith
-
-      own_word : w ≡ get_or image at 0
-      unfolding answer
-      own_word =
-          let (p, q) = got_of (get_or image at 0) (read_procedure form params me image at) r w next e d in
-          go p (sym d ∙ e ∙ ap (λ z. answer (get_or image at 0) z) q)
-        where
-          go : (p : Procedure) → At w next ≡ At (get_or image at 0) next → w ≡ get_or image at 0
-          go p f = cc
-
-      -- its entries: its place, its body's place, its number of parameters
-      pub progress_more : (ends' table' : List ℕ) (i b v : ℕ) → Sound image params me ends' → count ≤ 32 → i ≡ at → (x : ℕ) → x ≡ parameters_of w + locals_of w
-          → b ≡ at + 1 + 1 + x → v ≡ parameters_of w → table' ≡ set (set (set table (33 + me) i) (65 + me) b) (97 + me) v
-          → Progress form count image start first table' ends' (me + 1) next
-      unfolding behind
-      progress_more ends' table' i b v sound most hi x hx hb hv st =
-          let (p, q) = got_of (get_or image at 0) (read_procedure form params me image at) r w next e d in
-          let o = open_procedure form params me image at p next q in
-          let l = s.passed in
-          let size = o.types.count in
-          let body : body_place p ≡ b = ap (λ z. z + 1 + 1 + length p.types) o.place
-          ∙ ap (λ z. at + 1 + 1 + z) (size ∙ ap (λ z. parameters_of z + locals_of z) (sym own_word) ∙ sym hx) ∙ sym hb in
-          let arity : p.parameters ≡ v = o.parameters ∙ ap parameters_of (sym own_word) ∙ sym hv in
-          let place : p.place ≡ i = o.place ∙ sym hi in
-          go p q (st ∙ ap (λ (y : List ℕ). set (set (set y (33 + me) i) (65 + me) b) (97 + me) v) s.filled
-          ∙ sym (ap (λ (y : ℕ). set (set (set (table_of (arrays_in start) s.read) (33 + me) y) (65 + me) (body_place p)) (97 + me) p.parameters) place
-          ∙ ap (λ (y : ℕ). set (set (set (table_of (arrays_in start) s.read) (33 + me) i) (65 + me) y) (97 + me) p.parameters) body
-          ∙ ap (λ (y : ℕ). set (set (set (table_of (arrays_in start) s.read) (33 + me) i) (65 + me) b) (97 + me) y) arity)
-          ∙ table_procedure (arrays_in start) s.read p me (sym s.passed) s.few (omega arith))
-          (params_more (arrays_in start) s.read p me (sym s.passed) s.few (omega arith))
-        where
-          go : (p : Procedure) → read_procedure form params me image at ≡ got p next → table' ≡ table_of (arrays_in start) (s.read ++ (p ∷ []))
-              → params_in (table_of (arrays_in start) (s.read ++ (p ∷ []))) ≡ set (params_in (table_of (arrays_in start) s.read)) me p.parameters
-              → Progress form count image start first table' ends' (me + 1) next
-          go p q t m =
-              let more : params_in table' ≡ set params me p.parameters
-              = ap params_in t ∙ m ∙ ap (λ (y : List ℕ). set (params_in y) me p.parameters) (sym s.filled) in
-              record {
-                few = s.few;
-                read = s.read ++ (p ∷ []);
-                passed = length-append s.read (p ∷ []) ∙ ap (λ z. z + 1) s.passed;
-                filled = t;
-                sound = rw more (later_sound image params (set params me p.parameters) me ends'
-                    (λ g b. sym (get_or-set_other params me g p.parameters 0 (λ z. omega arith))) sound);
-                left = λ ps n f.
-                    s.left (p ∷ ps) n (turn ∙ ap behind q ∙ ap (λ z. and_then z (λ us o. got (p ∷ us) o)) (rw more at f))
-                    ∙ ap (λ z. got z n) (sym (append_assoc s.read (p ∷ []) ps));
-                shown = rw more (
-                    sym (answer_last 0 (read_procedures (count - (me + 1)) form (set params me p.parameters) (me + 1) image next) (λ us. p ∷ us))
-                    ∙ sym (ap (λ z. answer 0 z) (turn ∙ ap behind q)) ∙ s.shown);
-              }
-
-pub ruleset procedures_rules = (progress_begin, progress_sound, procedures_done, procedures_kept, procedures_bad, procedures_bad_kept, place_small, progress_more)
+    pub progress_more : (ends' : List ℕ) → Sound image params me ends' → (whole : Result ℕ Fault)
+        → answer (read_procedures (count - me) form params me image at) ≡ whole
+        → Progress form count image start first table' ends' (me + 1) next
+        × (answer (read_procedures (count - (me + 1)) form (params_in table') (me + 1) image next) ≡ whole)
+    progress_more ends' sound whole shown =
+        let (p, q) = got_of _ _ next e refl in
+        let (t, a, m) = entered p q in
+        let more = arity_known p q in (
+          record {
+            few = s.few;
+            read = s.read ++ (p ∷ []);
+            passed = length-append s.read (p ∷ []) ∙ ap (λ z. z + 1) s.passed;
+            filled = t;
+            sound = rw more (later_sound image params (set params me p.parameters) me ends'
+                (λ g b. sym (get_or-set_other params me g p.parameters 0 (λ z. omega arith))) sound);
+            left = λ ps n f.
+                s.left (p ∷ ps) n (turn p q ∙ ap (λ z. and_then z (λ us o. got (p ∷ us) o)) (rw more at f))
+                ∙ ap (λ z. got z n) (sym (append_assoc s.read (p ∷ []) ps));
+          },
+          shown_more whole shown,
+        )
 
 -- ---- what follows the header
 
-no_tables : (x : Parse Image) (image table ends : List ℕ) (n q : ℕ) → x ≡ refused n q → ImageLeft x image table ends
-unfolding ImageLeft
-no_tables x image table ends n q e tree m f = not_got x n q tree m e f
+-- the arrays that were read stand in the table, and no procedure does
+module _ (x : Parse (List ℕ)) (n : ℕ) (e : Ok n ≡ answer x) (table : List ℕ) (kept : ArraysLeft x table) where
+  arrays_are : (ws : List ℕ) × (x ≡ got ws n) × (arrays_in table ≡ ws) × (length ws ≤ 16) × (table ≡ table_of ws [])
+  unfolding ArraysLeft
+  arrays_are =
+      let (ws, g) = got_of x _ n e refl in
+      let (few, t) = kept ws n g in
+      (ws, g, ap arrays_in t ∙ table_arrays ws [] few (omega arith), few, t)
 
--- the numbers of parameters, where there is no procedure yet
-params_none : (ws : List ℕ) → length ws ≤ 16 → params_in (table_of ws []) ≡ replicate 32 0
+  pub params_none : params_in table ≡ replicate 32 0
+  unfolding padded
+  params_none =
+      let (ws, g, i, few, t) = arrays_are in ap params_in t ∙ table_params ws [] few (omega arith)
+
+  pub begun : Begun table
+  begun =
+      let (ws, g, i, few, t) = arrays_are in
+      (rw i few, t ∙ ap (λ (y : List ℕ). table_of y []) (sym i))
+
+params_begin : (table : List ℕ) → table ≡ table_of [] [] → params_in table ≡ replicate 32 0
 unfolding padded
-params_none ws h = table_params ws [] h (omega arith)
+params_begin table t = ap params_in t ∙ table_params [] [] (omega arith) (omega arith)
 
--- the fields of the header
-module _ (image : List ℕ) (w : ℕ) (h : header_word w ≡ true) (long : length image ≤ 16384) (start ends : List ℕ) (zeros : start ≡ table_of [] [])
-    (sound : Sound image (params_in start) 0 ends) (a : ℕ) (ha : a ≡ arrays_of w) where
-  pub arrays_asked : (a ≤ 16) × (start ≡ table_of [] [])
-  arrays_asked = let (kind, form, arrays, some, few) = header_limits w h in (omega arith, zeros)
+-- what was sound with no procedure in the table
+pub sound_kept : (image start table ends : List ℕ) → start ≡ table_of [] [] → params_in table ≡ replicate 32 0 → Sound image (params_in start) 0 ends
+    → Sound image (params_in table) 0 ends
+sound_kept image start table ends s t h = let same : params_in table ≡ params_in start = t ∙ sym (params_begin start s) in rw same h
 
-  module _ (r : Read) (e : r ≡ answer 0 (read_arrays a 0 image 1)) (table : List ℕ) (kept : ArraysLeft (read_arrays a 0 image 1) table) where
-    after_arrays : Parse (List ℕ) → Parse Image
-    after_arrays z =
-        and_then z
-        (λ ws n. and_then (read_procedures (procedures_of w) (form_of w) (replicate 32 0) 0 image n)
-        (λ ps m. pick (eqb m (length image)) (got (record { form = form_of w; arrays = ws; procedures = ps }) m) (refused 4 m)))
+module _ (w : ℕ) (image : List ℕ) where
+  tree : List ℕ → List Procedure → Image
+  tree ws ps = record { form = form_of w; arrays = ws; procedures = ps }
 
-    after_procedures : List ℕ → Parse (List Procedure) → Parse Image
-    after_procedures ws z =
-        and_then z (λ ps m. pick (eqb m (length image)) (got (record { form = form_of w; arrays = ws; procedures = ps }) m) (refused 4 m))
+  pub rest_begun : answer (read_rest w image)
+      ≡ (answer (read_arrays (arrays_of w) 0 image 1) >>= λ n. answer (read_procedures (procedures_of w) (form_of w) (replicate 32 0) 0 image n)
+      >>= λ m. ensured (eqb m (length image)) 4 m >>= λ _. Ok m)
+  unfolding read_rest answer tree
+  rest_begun =
+      answer_then (read_arrays (arrays_of w) 0 image 1)
+      (λ ws n. and_then (read_procedures (procedures_of w) (form_of w) (replicate 32 0) 0 image n)
+      (λ ps m. pick (eqb m (length image)) (got (tree ws ps) m) (refused 4 m)))
+      (λ n. answer (read_procedures (procedures_of w) (form_of w) (replicate 32 0) 0 image n) >>= λ m. ensured (eqb m (length image)) 4 m >>= λ _. Ok m)
+      (λ ws n. all ws (read_procedures (procedures_of w) (form_of w) (replicate 32 0) 0 image n))
+    where
+      spare : (t : Image) (m : ℕ) (b : Bool) → answer (pick b (got t m) (refused 4 m)) ≡ (ensured b 4 m >>= λ _. Ok m)
+      spare t m true = refl
+      spare t m false = refl
 
-    rest_shape : read_rest w image ≡ after_arrays (read_arrays a 0 image 1)
-    unfolding read_rest after_arrays
-    rest_shape = rw ha
+      all : (ws : List ℕ) (x : Parse (List Procedure))
+          → answer (and_then x (λ ps m. pick (eqb m (length image)) (got (tree ws ps) m) (refused 4 m)))
+          ≡ (answer x >>= λ m. ensured (eqb m (length image)) 4 m >>= λ _. Ok m)
+      all ws (got ps m) = spare (tree ws ps) m (eqb m (length image))
+      all ws (refused n q) = refl
 
-    module _ (n q : ℕ) (d : r ≡ Refused n q) where
-      arrays_refused : read_rest w image ≡ refused n q
-      unfolding after_arrays
-      arrays_refused = rest_shape ∙ ap after_arrays (refused_of 0 (read_arrays a 0 image 1) r n q e d)
+-- a refusal leaves nothing to say
+pub image_refused : (x : Parse Image) (image table ends : List ℕ) → is_err (answer x) ≡ true → ImageLeft x image table ends
+unfolding ImageLeft
+image_refused x image table ends e t n g = not_read x t n e g
 
-      pub rest_arrays_bad : r ≡ answer w (read_rest w image)
-      rest_arrays_bad = d ∙ answer_refused w (read_rest w image) n q arrays_refused
+-- the tables of what was read to the image's end
+module _ (w : ℕ) (image table table' ends' : List ℕ) (a : ℕ) (ha : a ≡ arrays_of w) (n : ℕ) (e : Ok n ≡ answer (read_arrays a 0 image 1))
+    (kept : ArraysLeft (read_arrays a 0 image 1) table) (m : ℕ)
+    (es : Ok m ≡ answer (read_procedures (procedures_of w) (form_of w) (params_in table) 0 image n))
+    (filled : ProceduresLeft (form_of w) (procedures_of w) image table n table' ends') (all : m ≡ length image) where
+  rest_is : (ws : List ℕ) (ps : List Procedure) → read_arrays a 0 image 1 ≡ got ws n
+      → read_procedures (procedures_of w) (form_of w) (params_in table) 0 image n ≡ got ps m → read_rest w image ≡ got (tree w image ws ps) m
+  unfolding read_rest tree
+  rest_is ws ps g h =
+      let none : replicate 32 0 ≡ params_in table = sym (params_none (read_arrays a 0 image 1) n e table kept) in
+      rw (← ha, g, none, h, eq-eqb m (length image) all)
 
-      pub rest_arrays_bad_tables : (table' ends' : List ℕ) → ImageLeft (read_rest w image) image table' ends'
-      rest_arrays_bad_tables table' ends' = no_tables (read_rest w image) image table' ends' n q arrays_refused
+  pub rest_tables : ImageLeft (read_rest w image) image table' ends'
+  unfolding ImageLeft ProceduresLeft tree
+  rest_tables t k g =
+      let (ws, r, i, few, _) = arrays_are (read_arrays a 0 image 1) n e table kept in
+      let (ps, h) = got_of _ _ m es refl in
+      let (same, _) = got_same (read_rest w image) (tree w image ws ps) t m k (rest_is ws ps r h) g in
+      let (filled, right) = filled ps m h in
+      go ws ps t same (filled ∙ ap (λ (z : List ℕ). table_of z ps) i) right
+    where
+      go : (ws : List ℕ) (ps : List Procedure) (t : Image) → tree w image ws ps ≡ t
+          → table' ≡ table_of ws ps → BlockEnds image (params_in table') ends' → Tables image t table' ends'
+      go ws ps t same filled right = rw (← same) (record { filled = filled; block_ends = right })
 
-    module _ (v n : ℕ) (d : r ≡ At v n) (f : ℕ) (hf : f ≡ form_of w) (p : ℕ) (hp : p ≡ procedures_of w) where
-      -- the arrays that were read stand in the table
-      arrays_are : (ws : List ℕ) × (read_arrays a 0 image 1 ≡ got ws n) × (arrays_in table ≡ ws) × (length ws ≤ 16) × (table ≡ table_of ws [])
-      unfolding ArraysLeft
-      arrays_are =
-          let (ws, g) = got_of 0 (read_arrays a 0 image 1) r v n e d in
-          let (few, t) = kept ws n g in
-          (ws, g, ap arrays_in t ∙ table_arrays ws [] few (omega arith), few, t)
-
-      sound_now : (ws : List ℕ) → length ws ≤ 16 → table ≡ table_of ws [] → Sound image (params_in table) 0 ends
-      sound_now ws few t =
-          let same : params_in table ≡ params_in start = ap params_in t ∙ params_none ws few ∙ sym (ap params_in zeros ∙ params_none [] (omega arith)) in
-          rw same sound
-
-      pub procedures_asked : (f < 2) × (p ≤ 32) × (length image ≤ 16384) × Begun table × Sound image (params_in table) 0 ends
-      procedures_asked =
-          let (kind, form, arrays, some, most) = header_limits w h in
-          let (ws, g, i, few, t) = arrays_are in
-          (omega arith, omega arith, long, (rw i few, t ∙ ap (λ (y : List ℕ). table_of y []) (sym i)), sound_now ws few t)
-
-      module _ (s : Read) (es : s ≡ answer 0 (read_procedures p f (params_in table) 0 image n)) (table' ends' : List ℕ)
-          (fs : ProceduresLeft f p image table n table' ends') where
-        arrays_read : (ws : List ℕ) × (arrays_in table ≡ ws)
-            × (read_rest w image ≡ after_procedures ws (read_procedures p f (params_in table) 0 image n))
-        unfolding after_arrays after_procedures
-        arrays_read =
-            let (ws, g, i, few, t) = arrays_are in
-            let none : params_in table ≡ replicate 32 0 = ap params_in t ∙ params_none ws few in (
-              ws,
-              i,
-              rest_shape ∙ ap after_arrays g
-                  ∙ ap (λ (z : List ℕ). after_procedures ws (read_procedures (procedures_of w) (form_of w) z 0 image n)) (sym none)
-                  ∙ ap (λ (z : ℕ). after_procedures ws (read_procedures z (form_of w) (params_in table) 0 image n)) (sym hp)
-                  ∙ ap (λ (z : ℕ). after_procedures ws (read_procedures p z (params_in table) 0 image n)) (sym hf),
-            )
-
-        module _ (m q : ℕ) (ds : s ≡ Refused m q) where
-          procedures_refused : read_rest w image ≡ refused m q
-          unfolding after_procedures
-          procedures_refused =
-              let (ws, i, x) = arrays_read in
-              x ∙ ap (after_procedures ws) (refused_of 0 (read_procedures p f (params_in table) 0 image n) s m q es ds)
-
-          pub rest_procedures_bad : s ≡ answer w (read_rest w image)
-          rest_procedures_bad = ds ∙ answer_refused w (read_rest w image) m q procedures_refused
-
-          pub rest_procedures_bad_tables : ImageLeft (read_rest w image) image table' ends'
-          rest_procedures_bad_tables = no_tables (read_rest w image) image table' ends' m q procedures_refused
-
-        module _ (u m : ℕ) (ds : s ≡ At u m) where
-          procedures_read : (ws : List ℕ) × (ps : List Procedure) × (arrays_in table ≡ ws)
-              × (read_rest w image
-              ≡ pick (eqb m (length image)) (got (record { form = form_of w; arrays = ws; procedures = ps }) m) (refused 4 m))
-              × (read_procedures p f (params_in table) 0 image n ≡ got ps m)
-          unfolding after_procedures
-          procedures_read =
-              let (ws, i, x) = arrays_read in
-              let (ps, g) = got_of 0 (read_procedures p f (params_in table) 0 image n) s u m es ds in
-              (ws, ps, i, x ∙ ap (after_procedures ws) g, g)
-
-          module _ (spare : m ≡ length image → ⊥) where
-            spare_refused : read_rest w image ≡ refused 4 m
-            spare_refused =
-                let (ws, ps, i, x, g) = procedures_read in
-                x ∙ ap (λ b. pick b (got (record { form = form_of w; arrays = ws; procedures = ps }) m) (refused 4 m)) (ne_eqb m (length image) spare)
-
-            pub rest_spare : Refused 4 m ≡ answer w (read_rest w image)
-            rest_spare = answer_refused w (read_rest w image) 4 m spare_refused
-
-            pub rest_spare_tables : ImageLeft (read_rest w image) image table' ends'
-            rest_spare_tables = no_tables (read_rest w image) image table' ends' 4 m spare_refused
-
-          module _ (all : m ≡ length image) where
-            rest_read : (ws : List ℕ) × (ps : List Procedure) × (arrays_in table ≡ ws)
-                × (read_rest w image ≡ got (record { form = form_of w; arrays = ws; procedures = ps }) m)
-                × (read_procedures p f (params_in table) 0 image n ≡ got ps m)
-            rest_read =
-                let (ws, ps, i, x, g) = procedures_read in (
-                  ws,
-                  ps,
-                  i,
-                  x ∙ ap (λ b. pick b (got (record { form = form_of w; arrays = ws; procedures = ps }) m) (refused 4 m)) (eq-eqb m (length image) all),
-                  g,
-                )
-
-            pub rest_whole : At w m ≡ answer w (read_rest w image)
-            rest_whole =
-                let (ws, ps, i, x, g) = rest_read in
-                answer_got w (read_rest w image) (record { form = form_of w; arrays = ws; procedures = ps }) m x
-
-            pub rest_tables : ImageLeft (read_rest w image) image table' ends'
-            unfolding ImageLeft ProceduresLeft
-            rest_tables tree k g =
-                let (ws, ps, i, x, y) = rest_read in
-                let (same, _) = got_same (read_rest w image) (record { form = form_of w; arrays = ws; procedures = ps }) tree m k x g in
-                let (filled, right) = fs ps m y in
-                go ws ps tree same (filled ∙ ap (λ (z : List ℕ). table_of z ps) i) right
-              where
-                go : (ws : List ℕ) (ps : List Procedure) (tree : Image) → record { form = form_of w; arrays = ws; procedures = ps } ≡ tree
-                    → table' ≡ table_of ws ps → BlockEnds image (params_in table') ends' → Tables image tree table' ends'
-                go ws ps tree same filled right = rw (← same) (record { filled = filled; block_ends = right })
+pub ruleset rest_rules = (header_form, header_arrays, header_procedures, rest_begun, params_none, begun, sound_kept, image_refused)
 
 -- ---- an image
 
@@ -322,68 +265,35 @@ image_limit : (b : Bool) → pick b 4096 16384 ≤ 16384
 image_limit true = omega arith
 image_limit false = omega arith
 
-module _ (whole : Bool) (image table ends : List ℕ) where
-  module _ (none : length image ≡ 0) where
-    empty_refused : read_image whole image ≡ refused 1 0
+module _ (whole : Bool) (image : List ℕ) where
+  pub image_begun : answer (read_image whole image)
+      ≡ (ensured (not (eqb (length image) 0)) 1 0 >>= λ _. ensured (header_word (get_or image 0 0)) 2 0
+      >>= λ _. ensured (whole && leb (length image) (largest_image (form_of (get_or image 0 0)))) 1 0 >>= λ _. answer (read_rest (get_or image 0 0) image))
+  unfolding read_image answer
+  image_begun =
+      go (eqb (length image) 0) (header_word (get_or image 0 0)) (whole && leb (length image) (largest_image (form_of (get_or image 0 0))))
+    where
+      go : (a b c : Bool)
+          → answer (pick a (refused 1 0) (pick b (pick c (read_rest (get_or image 0 0) image) (refused 1 0)) (refused 2 0)))
+          ≡ (ensured (not a) 1 0 >>= λ _. ensured b 2 0 >>= λ _. ensured c 1 0 >>= λ _. answer (read_rest (get_or image 0 0) image))
+      go true b c = refl
+      go false true true = refl
+      go false true false = refl
+      go false false c = refl
+
+  module _ (some : length image ≡ 0 → ⊥) (good : header_word (get_or image 0 0) ≡ true)
+      (fits : whole && leb (length image) (largest_image (form_of (get_or image 0 0))) ≡ true) where
+    pub image_short : length image ≤ 16384
+    image_short =
+        let a = leb-true (length image) (largest_image (form_of (get_or image 0 0))) (and_right whole _ fits) in
+        let b = image_limit (eqb (form_of (get_or image 0 0)) 0) in omega arith
+
+    pub image_tables : (table ends : List ℕ) → ImageLeft (read_rest (get_or image 0 0) image) image table ends
+        → ImageLeft (read_image whole image) image table ends
     unfolding read_image
-    empty_refused = rw (eq-eqb (length image) 0 none)
+    image_tables table ends q = rw (ne_eqb (length image) 0 some, good, fits) q
 
-    pub image_empty : Refused 1 0 ≡ answer (get_or image 0 0) (read_image whole image)
-    image_empty = answer_refused (get_or image 0 0) (read_image whole image) 1 0 empty_refused
-
-    pub image_empty_tables : ImageLeft (read_image whole image) image table ends
-    image_empty_tables = no_tables (read_image whole image) image table ends 1 0 empty_refused
-
-  module _ (some : length image ≡ 0 → ⊥) (g : Bool) (h : g ≡ header_word (get_or image 0 0)) where
-    module _ (t : not g ≡ true) where
-      header_refused : read_image whole image ≡ refused 2 0
-      unfolding read_image
-      header_refused = rw (ne_eqb (length image) 0 some, sym h ∙ not-true g t)
-
-      pub image_header : Refused 2 0 ≡ answer (get_or image 0 0) (read_image whole image)
-      image_header = answer_refused (get_or image 0 0) (read_image whole image) 2 0 header_refused
-
-      pub image_header_tables : ImageLeft (read_image whole image) image table ends
-      image_header_tables = no_tables (read_image whole image) image table ends 2 0 header_refused
-
-    module _ (t : not g ≡ false) (f : ℕ) (hf : f ≡ form_of (get_or image 0 0)) (most : ℕ) (hm : most ≡ largest_image f) where
-      pub header_good : header_word (get_or image 0 0) ≡ true
-      header_good = sym h ∙ not-false g t
-
-      most_is : most ≡ largest_image (form_of (get_or image 0 0))
-      most_is = hm ∙ ap largest_image hf
-
-      module _ (l : not (whole && leb (length image) most) ≡ true) where
-        long_refused : read_image whole image ≡ refused 1 0
-        unfolding read_image
-        long_refused =
-            rw (ne_eqb (length image) 0 some, header_good, ← most_is, not-true (whole && leb (length image) most) l)
-
-        pub image_long : Refused 1 0 ≡ answer (get_or image 0 0) (read_image whole image)
-        image_long = answer_refused (get_or image 0 0) (read_image whole image) 1 0 long_refused
-
-        pub image_long_tables : ImageLeft (read_image whole image) image table ends
-        image_long_tables = no_tables (read_image whole image) image table ends 1 0 long_refused
-
-      module _ (l : not (whole && leb (length image) most) ≡ false) where
-        image_rest : read_image whole image ≡ read_rest (get_or image 0 0) image
-        unfolding read_image
-        image_rest = rw (ne_eqb (length image) 0 some, header_good, ← most_is, not-false (whole && leb (length image) most) l)
-
-        pub image_short : length image ≤ 16384
-        image_short =
-            let a = leb-true (length image) most (and_right whole (leb (length image) most) (not-false (whole && leb (length image) most) l)) in
-            let b = image_limit (eqb (form_of (get_or image 0 0)) 0) in
-            let c = most_is in omega arith
-
-        pub image_whole : (x : Read) → x ≡ answer (get_or image 0 0) (read_rest (get_or image 0 0) image) → x ≡ answer (get_or image 0 0) (read_image whole image)
-        image_whole x q = q ∙ ap (λ z. answer (get_or image 0 0) z) (sym image_rest)
-
-        pub image_tables : (table' ends' : List ℕ) → ImageLeft (read_rest (get_or image 0 0) image) image table' ends'
-            → ImageLeft (read_image whole image) image table' ends'
-        image_tables table' ends' q = rw image_rest q
-
-pub ruleset image_rules = (image_empty, image_empty_tables, image_header, image_header_tables, header_good, image_short, image_long, image_long_tables, image_whole, image_tables)
+pub ruleset image_rules = (image_begun, image_short, image_tables, image_refused)
 
 -- the tables as they came are of no image yet
 pub whole_asked : (image table ends : List ℕ) → table ≡ replicate 129 0 → ends ≡ replicate (length ends) 0
@@ -395,15 +305,15 @@ whole_asked image table ends t e =
     go n q = rw q (zeros_sound image (params_in table) 0 n)
 
 -- what was read stands in the tables; after a refusal they were cleared
-pub tables_read : (w : ℕ) (x : Parse Image) (image table ends : List ℕ) (r : Read) (v n : ℕ) → r ≡ answer w x → r ≡ At v n → ImageLeft x image table ends
-    → TablesLeft x image table ends
-unfolding ImageLeft TablesLeft
-tables_read w (got tree m) image table ends r v n e d k = k tree m refl
-tables_read w (refused m q) image table ends r v n e d k = let (a, f) = got_of w (refused m q) r v n e d in not_got (refused m q) m q a n refl f
+pub tables_read : (x : Parse Image) (image table ends : List ℕ) → is_err (answer x) ≡ false → ImageLeft x image table ends → TablesLeft x image table ends
+unfolding ImageLeft TablesLeft answer
+tables_read (got tree m) image table ends e k = k tree m refl
+tables_read (refused m q) image table ends e k = false_true (sym e)
 
-pub tables_refused : (w : ℕ) (x : Parse Image) (image table ends : List ℕ) (r : Read) (m q : ℕ) → r ≡ answer w x → r ≡ Refused m q
-    → table ≡ replicate (length table) 0 → length table ≡ 129 → ends ≡ replicate (length ends) 0 → TablesLeft x image table ends
-unfolding TablesLeft
-tables_refused w (got tree o) image table ends r m q e d t l f =
-    not_got (got tree o) m q tree o (refused_of w (got tree o) r m q e d) refl
-tables_refused w (refused o p) image table ends r m q e d t l f = (t ∙ ap (λ z. replicate z 0) l, f)
+pub tables_refused : (x : Parse Image) (image table ends : List ℕ) → is_err (answer x) ≡ true → table ≡ replicate 129 0 → ends ≡ replicate (length ends) 0
+    → TablesLeft x image table ends
+unfolding TablesLeft answer
+tables_refused (got tree o) image table ends e t f = false_true e
+tables_refused (refused o p) image table ends e t f = (t, f)
+
+pub ruleset tables_rules = (tables_read, tables_refused)

@@ -1,7 +1,7 @@
-pub mod Answers
-pub mod EndRules
+pub mod Steps
 pub mod ExpressionRules
 pub mod StatementRules
-pub mod ArrayRules
+pub mod EndRules
 pub mod ProcedureRules
+pub mod ArrayRules
 pub mod ImageRules

@@ -1,5 +1,5 @@
 -- The table of the ends of blocks that reading an image leaves for the passes after. Assumes nothing.
-use Rattle.std.specs.Prelude.{◌≡◌, Bool, true, false, List, ℕ, zero, suc, ◌+◌, ◌≤◌, eqb, ltb, length, set, replicate}
+use Rattle.std.specs.Prelude.{◌≡◌, Bool, true, false, List, ℕ, zero, suc, ◌+◌, ◌≤◌, eqb, ltb, length, set, replicate, Option, None, Some}
 use Rattle.std.proofs.Math.Path.{refl, ap}
 use Rattle.std.proofs.Common.{sym, ◌∙◌, arith, eqb-true, ltb-true, ltb-false, get_or-set_same, get_or-set_other}
 use Rattle.std.proofs.lemmas.Bool.{eqb-false}
@@ -30,6 +30,10 @@ sound_ends image params me ends s at h = let (l, f, b, le, q) = s at h in (l, f,
 -- an end that does not fit an entry, or has none, is not stored
 abbrev pub marked : List ℕ → ℕ → ℕ → List ℕ
 marked ends at end = pick (ltb end 65536) (set ends at end) ends
+
+-- an entry of 0 is none
+abbrev pub known_end : ℕ → Option ℕ
+known_end e = pick (eqb e 0) None (Some e)
 
 zero_at : (n a : ℕ) → ◌≡◌ {A = ℕ} (get_or (replicate n 0) a 0) 0
 zero_at zero a = refl

@@ -1,86 +1,51 @@
 // Reading expressions, operator first: a call of itself for each operand, one level below.
-ghost use Rattle.std.specs.Prelude.{◌≡◌, ◌≤◌, ◌<◌, get_or};
+ghost use Rattle.std.specs.Prelude.{◌≡◌};
 ghost use Rattle.definitions.specs.Reading.{read_expression};
 ghost use Rattle.image_words.specs.Read.{arguments_at};
-ghost use Rattle.reader.specs.Answers.{answer, raw_answer};
+ghost use Rattle.reader.specs.Answers.{answer};
 
-use super::Read;
-use super::words::word;
+use super::words::{ensure, word};
+use definitions::Fault;
+use image_words::kinds::{self, Kind};
 use image_words::valid::{expression_word, raw_word};
-use image_words::{kind, kinds};
-
-// The raw constant after its word.
-#[tactic(auto, using(crate::proofs::ExpressionRules::raw_rules))]
-fn read_raw(image: &[u32], w: u32, at: usize) -> Read
-    ensures { result ≡ raw_answer w image.now at }
-{
-    let r = word(image, at);
-    let Read::At(v, next) = r else {
-        return r;
-    };
-    if !raw_word(v) {
-        return Read::Refused(2, at);
-    }
-    Read::At(w, next)
-}
+use reasons::Reason;
 
 // `level` is the number of levels that are left.
 #[tactic(auto, using(crate::proofs::ExpressionRules::expression_rules))]
-pub fn read_expression(image: &[u32], at: usize, level: u32) -> Read
-    ensures { result ≡ answer (get_or image.now at 0) (read_expression level image.now at) }
+pub fn read_expression(image: &[u32], at: usize, level: u32) -> Result<usize, Fault>
+    ensures { result ≡ answer (read_expression level image.now at) }
 {
-    let r = word(image, at);
-    let Read::At(w, next) = r else {
-        return r;
-    };
-    if !expression_word(w) {
-        return Read::Refused(2, at);
+    let w = word(image, at)?;
+    ensure(expression_word(w), Reason::Word, at)?;
+    ensure(level != 0, Reason::TooDeep, at)?;
+    let next = at + 1;
+    let below = level - 1;
+    match kinds::of(w) {
+        Kind::Constant | Kind::Boolean | Kind::Variable => Ok(next),
+        Kind::RawConstant => {
+            ensure(raw_word(word(image, next)?), Reason::Word, next)?;
+            Ok(next + 1)
+        }
+        Kind::Cell | Kind::Unary => read_expression(image, next, below),
+        Kind::Binary => {
+            let second = read_expression(image, next, below)?;
+            read_expression(image, second, below)
+        }
+        Kind::Select => {
+            let second = read_expression(image, next, below)?;
+            let third = read_expression(image, second, below)?;
+            read_expression(image, third, below)
+        }
     }
-    if level == 0 {
-        return Read::Refused(5, at);
-    }
-    let k = kind(w);
-    if k == kinds::RAW_CONSTANT {
-        return read_raw(image, w, next);
-    }
-    if k <= kinds::VARIABLE {
-        return Read::At(w, next);
-    }
-    let r1 = read_expression(image, next, level - 1);
-    let Read::At(_, n) = r1 else {
-        return r1;
-    };
-    if k <= kinds::UNARY {
-        return Read::At(w, n);
-    }
-    let r2 = read_expression(image, n, level - 1);
-    let Read::At(_, m) = r2 else {
-        return r2;
-    };
-    if k == kinds::BINARY {
-        return Read::At(w, m);
-    }
-    let r3 = read_expression(image, m, level - 1);
-    let Read::At(_, o) = r3 else {
-        return r3;
-    };
-    Read::At(w, o)
 }
 
-// `count` expressions in a row; there need be none, so that the word answered is 0.
+// `count` expressions in a row.
 #[tactic(auto, using(crate::proofs::ExpressionRules::arguments_rules))]
-pub fn read_arguments(image: &[u32], count: u32, at: usize, level: u32) -> Read
-    ensures { result ≡ answer 0 (arguments_at count level image.now at) }
+pub fn read_arguments(image: &[u32], count: u32, mut at: usize, level: u32) -> Result<usize, Fault>
+    ensures { result ≡ answer (arguments_at count level image.now at) }
 {
-    let mut k = 0;
-    let mut a = at;
-    while k < count {
-        let r = read_expression(image, a, level);
-        let Read::At(_, next) = r else {
-            return r;
-        };
-        a = next;
-        k += 1;
+    for _ in 0..count {
+        at = read_expression(image, at, level)?;
     }
-    Read::At(0, a)
+    Ok(at)
 }

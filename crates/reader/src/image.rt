@@ -1,105 +1,105 @@
 // Reading a whole image: header, arrays, procedures. Fills the tables for the passes after.
-ghost use Rattle.std.specs.Prelude.{◌≡◌, true, [], ◌≤◌, ◌<◌, length, get_or, replicate};
-ghost use Rattle.definitions.specs.Image.{header_word};
+ghost use Rattle.std.specs.Prelude.{◌≡◌, true, [], ◌≤◌, length, get_or, replicate};
+ghost use Rattle.definitions.specs.Image.{form_of, procedures_of, header_word};
 ghost use Rattle.definitions.specs.Reading.{read_procedures, read_rest, read_image};
 ghost use Rattle.tables.specs.Table.{table_of, params_in};
 ghost use Rattle.reader.specs.Answers.{answer};
 ghost use Rattle.reader.specs.Ends.{Sound};
 ghost use Rattle.reader.specs.Left.{Begun, ProceduresLeft, ImageLeft, TablesLeft};
 
-use super::Read;
-use super::ends::clear_ends;
-use super::procedures::{read_arrays, read_procedure};
+use super::procedures::read_arrays;
+use super::statement_words::ProcedureReader;
+use super::words::ensure;
+use definitions::Fault;
 use image_words::limits::largest_image;
-use image_words::lists::{clear, narrow, wide};
 use image_words::valid::header_word;
 use image_words::{arrays, form, parameters, procedures, variables};
-use tables::SIZE;
+use reasons::Reason;
+use tables::Table;
 
-// `count` procedures, which go into the table; there need be none, so that the word answered is 0.
+// The procedures that a header tells of, which go into the table.
+#[tactic(auto, using(crate::proofs::ImageRules::procedures_rules))]
 fn read_procedures(
     image: &[u32],
-    form: u32,
-    count: u32,
-    table: &mut [u32; SIZE],
+    header: u32,
+    table: &mut Table,
     ends: &mut [u16],
-    at: usize,
-) -> Read
-    requires { (form < 2) × (count ≤ 32) × (length image.now ≤ 16384) × Begun table.old
-        × Sound image.now (params_in table.old) 0 ends.old }
-    ensures { (result ≡ answer 0 (read_procedures count form (params_in table.old) 0 image.now at))
-        × ProceduresLeft form count image.now table.old at table.new ends.new }
+    mut at: usize,
+) -> Result<usize, Fault>
+    requires { (header_word header ≡ true) × (length image.now ≤ 16384) × Begun table.old × Sound image.now (params_in table.old) 0 ends.old }
+    ensures read { result ≡ answer (read_procedures (procedures_of header) (form_of header) (params_in table.old) 0 image.now at) }
+    ensures left { ProceduresLeft (form_of header) (procedures_of header) image.now table.old at table.new ends.new }
 {
-    let mut me: u32 = 0;
-    let mut a = at;
-    while me < count {
-        let r = read_procedure(image, form, table, me, ends, a);
-        let Read::At(w, next) = r else {
-            return r;
-        };
-        let body = a + 1 + 1 + wide(variables(w));
-        tables::add_procedure(table, me, narrow(a), narrow(body), parameters(w));
-        a = next;
-        me += 1;
+    let form = form(header);
+    let count = procedures(header);
+    for me in 0..count {
+        let reader = ProcedureReader { image, table, me };
+        let next = reader.read_procedure(form, ends, at)?;
+        let w = image[at];
+        let body = at + 1 + 1 + variables(w) as usize;
+        tables::add_procedure(table, me, at as u32, body as u32, parameters(w));
+        at = next;
     }
-    Read::At(0, a)
+    Ok(at)
 }
 
 // What follows a header that was tested, up to the image's end: "4 [first spare word]".
-fn read_rest(image: &[u32], header: u32, table: &mut [u32; SIZE], ends: &mut [u16]) -> Read
+#[tactic(auto, using(crate::proofs::ImageRules::rest_rules))]
+fn read_rest(
+    image: &[u32],
+    header: u32,
+    table: &mut Table,
+    ends: &mut [u16],
+) -> Result<usize, Fault>
     requires { (header_word header ≡ true) × (length image.now ≤ 16384) × (table.old ≡ table_of [] []) × Sound image.now (params_in table.old) 0 ends.old }
-    ensures { (result ≡ answer header (read_rest header image.now))
-        × ImageLeft (read_rest header image.now) image.now table.new ends.new }
+    ensures read { result ≡ answer (read_rest header image.now) }
+    ensures left { ImageLeft (read_rest header image.now) image.now table.new ends.new }
 {
-    let r = read_arrays(image, arrays(header), 1, table);
-    let Read::At(_, n) = r else {
-        return r;
-    };
-    let s = read_procedures(image, form(header), procedures(header), table, ends, n);
-    let Read::At(_, m) = s else {
-        return s;
-    };
-    if m != image.len() {
-        return Read::Refused(4, m);
-    }
-    Read::At(header, m)
+    let first = read_arrays(image, arrays(header), 1, table)?;
+    let end = read_procedures(image, header, table, ends, first)?;
+    ensure(end == image.len(), Reason::SpareWord, end)?;
+    Ok(end)
 }
 
 // An image, with tables of zeros. The header comes before the length.
 #[tactic(auto, using(crate::proofs::ImageRules::image_rules))]
-fn read_whole(image: &[u32], whole: bool, table: &mut [u32; SIZE], ends: &mut [u16]) -> Read
+fn read_whole(
+    image: &[u32],
+    whole: bool,
+    table: &mut Table,
+    ends: &mut [u16],
+) -> Result<usize, Fault>
     requires { (table.old ≡ table_of [] []) × Sound image.now (params_in table.old) 0 ends.old }
-    ensures { (result ≡ answer (get_or image.now 0 0) (read_image whole image.now))
-        × ImageLeft (read_image whole image.now) image.now table.new ends.new }
+    ensures read { result ≡ answer (read_image whole image.now) }
+    ensures left { ImageLeft (read_image whole image.now) image.now table.new ends.new }
 {
-    if image.len() == 0 {
-        return Read::Refused(1, 0); // empty
-    }
-    let header = image[0];
-    if !header_word(header) {
-        return Read::Refused(2, 0); // no header
-    }
+    let Some(&header) = image.first() else {
+        return Err(Reason::Length.at(0));
+    };
+    ensure(header_word(header), Reason::Word, 0)?;
     let most = largest_image(form(header));
-    if !(whole & (image.len() <= most)) {
-        return Read::Refused(1, 0); // too long, or bytes left over
-    }
+    ensure(whole && image.len() <= most, Reason::Length, 0)?;
     read_rest(image, header, table, ends)
 }
 
 // Reads an image and leaves the tables for the passes after: what they have to know of arrays and procedures, and the place after each
-// block, as far as `ends` is long enough. Both come as zeros, and a refusal leaves zeros. `whole` tells whether the image came as whole words.
-pub fn read_image(image: &[u32], whole: bool, table: &mut [u32; SIZE], ends: &mut [u16]) -> Read
+// block, as far as `ends` is long enough. Both come as zeros, and a refusal leaves zeros. `whole` tells whether the image came as whole words:
+// it stands beside the words, as in the definition `read_image`.
+#[tactic(auto, using(crate::proofs::ImageRules::tables_rules))]
+pub fn read_image(
+    image: &[u32],
+    whole: bool,
+    table: &mut Table,
+    ends: &mut [u16],
+) -> Result<usize, Fault>
     requires { (table.old ≡ replicate 129 0) × (ends.old ≡ replicate (length ends.old) 0) }
-    ensures { (result ≡ answer (get_or image.now 0 0) (read_image whole image.now))
-        × TablesLeft (read_image whole image.now) image.now table.new ends.new }
+    ensures read { result ≡ answer (read_image whole image.now) }
+    ensures left { TablesLeft (read_image whole image.now) image.now table.new ends.new }
 {
-    let r = read_whole(image, whole, table, ends);
-    match r {
-        Read::At(header, end) => Read::At(header, end),
-        Read::Refused(number, place) => {
-            clear(table);
-            clear_ends(ends);
-            Read::Refused(number, place)
-        }
+    let read = read_whole(image, whole, table, ends);
+    if read.is_err() {
+        table.fill(0);
+        ends.fill(0);
     }
+    read
 }

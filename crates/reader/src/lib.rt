@@ -1,4 +1,4 @@
-// Reads an image of words: each read answers a word with the next cursor, or the refusal. What is read is the definition's tree;
+// Reads an image of words: each read answers the place after what it read, or the refusal. What is read is the definition's tree;
 // no tree is built, and two lent tables are filled for the passes after.
 #![tactic(auto)]
 
@@ -8,10 +8,3 @@ mod expressions; // expressions and the values of a call
 pub mod statement_words; // statements and blocks
 mod procedures; // types, procedures, arrays
 pub mod image; // a whole image
-
-// A word with the place after it, or after the part that it begins; or document 01's number and place.
-#[derive(Clone, Copy)]
-pub enum Read {
-    At(u32, usize),
-    Refused(u32, usize),
-}

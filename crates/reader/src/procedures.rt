@@ -1,117 +1,68 @@
 // Reading type words, procedures and array words.
-ghost use Rattle.std.specs.Prelude.{◌≡◌, ◌≤◌, ◌<◌, [], length, get_or};
+ghost use Rattle.std.specs.Prelude.{◌≡◌, ◌≤◌, ◌<◌, []};
 ghost use Rattle.definitions.specs.Reading.{read_types, read_procedure, read_arrays};
 ghost use Rattle.tables.specs.Table.{table_of, params_in};
-ghost use Rattle.reader.specs.Answers.{answer, body_answer};
+ghost use Rattle.reader.specs.Answers.{answer};
 ghost use Rattle.reader.specs.Ends.{Sound};
 ghost use Rattle.reader.specs.Left.{ArraysLeft};
 
-use super::Read;
-use super::statement_words::read_block;
-use super::words::word;
+use super::statement_words::ProcedureReader;
+use super::words::{ensure, word};
+use definitions::Fault;
 use image_words::limits::largest_level;
 use image_words::valid::{array_word, procedure_word, type_word};
 use image_words::{array_length, variables};
-use tables::SIZE;
+use reasons::Reason;
+use tables::Table;
 
-// `count` type words; there need be none, so that the word answered is 0.
+// `count` type words.
 #[tactic(auto, using(crate::proofs::ProcedureRules::types_rules))]
-pub fn read_types(image: &[u32], count: u32, at: usize) -> Read
-    ensures { result ≡ answer 0 (read_types count image.now at) }
+pub fn read_types(image: &[u32], count: u32, mut at: usize) -> Result<usize, Fault>
+    ensures { result ≡ answer (read_types count image.now at) }
 {
-    let mut k = 0;
-    let mut a = at;
-    while k < count {
-        let r = word(image, a);
-        let Read::At(w, next) = r else {
-            return r;
-        };
-        if !type_word(w) {
-            return Read::Refused(2, a);
-        }
-        a = next;
-        k += 1;
+    for _ in 0..count {
+        ensure(type_word(word(image, at)?), Reason::Word, at)?;
+        at += 1;
     }
-    Read::At(0, a)
+    Ok(at)
 }
 
-// The types of a procedure's parameters and locals, then its body; `w` is the procedure's word.
-#[tactic(auto, using(crate::proofs::ProcedureRules::body_rules))]
-fn read_body(
+impl ProcedureReader<'_> {
+    // The procedure's word, its result's type, the types of its parameters and locals, its body.
+    #[tactic(auto, using(crate::proofs::ProcedureRules::procedure_rules))]
+    pub fn read_procedure(self, form: u32, ends: &mut [u16], at: usize) -> Result<usize, Fault>
+        requires { (form < 2) × Sound self.image.now (params_in self.table.now) self.me ends.old }
+        ensures read { result ≡ answer (read_procedure form (params_in self.entry.table.now) self.entry.me self.entry.image.now at) }
+        ensures sound { Sound self.entry.image.now (params_in self.entry.table.now) self.entry.me ends.new }
+    {
+        let w = word(self.image, at)?;
+        ensure(procedure_word(form, w), Reason::Word, at)?;
+        let next = at + 1;
+        ensure(type_word(word(self.image, next)?), Reason::Word, next)?;
+        let body = read_types(self.image, variables(w), next + 1)?;
+        self.read_block(ends, body, largest_level(form))
+    }
+}
+
+// `count` array words, which go into the table.
+#[tactic(auto, using(crate::proofs::ArrayRules::arrays_rules))]
+pub fn read_arrays(
     image: &[u32],
-    form: u32,
-    table: &[u32; SIZE],
-    me: u32,
-    ends: &mut [u16],
-    w: u32,
-    at: usize,
-) -> Read
-    requires { Sound image.now (params_in table.now) me ends.old }
-    ensures { (result ≡ body_answer form (params_in table.now) me image.now w at)
-        × Sound image.now (params_in table.now) me ends.new }
-{
-    let r1 = read_types(image, variables(w), at);
-    let Read::At(_, n) = r1 else {
-        return r1;
-    };
-    let r2 = read_block(image, table, me, ends, n, largest_level(form));
-    let Read::At(_, end) = r2 else {
-        return r2;
-    };
-    Read::At(w, end)
-}
-
-// The procedure numbered `me`: its word, its result's type, then the rest.
-#[tactic(auto, using(crate::proofs::ProcedureRules::procedure_rules))]
-pub fn read_procedure(
-    image: &[u32],
-    form: u32,
-    table: &[u32; SIZE],
-    me: u32,
-    ends: &mut [u16],
-    at: usize,
-) -> Read
-    requires { (form < 2) × Sound image.now (params_in table.now) me ends.old }
-    ensures { (result ≡ answer (get_or image.now at 0) (read_procedure form (params_in table.now) me image.now at))
-        × Sound image.now (params_in table.now) me ends.new }
-{
-    let r = word(image, at);
-    let Read::At(w, next) = r else {
-        return r;
-    };
-    if !procedure_word(form, w) {
-        return Read::Refused(2, at);
-    }
-    let s = word(image, next);
-    let Read::At(v, first) = s else {
-        return s;
-    };
-    if !type_word(v) {
-        return Read::Refused(2, next);
-    }
-    read_body(image, form, table, me, ends, w, first)
-}
-
-// `count` array words, which go into the table; there need be none, so that the word answered is 0.
-pub fn read_arrays(image: &[u32], count: u32, at: usize, table: &mut [u32; SIZE]) -> Read
+    count: u32,
+    mut at: usize,
+    table: &mut Table,
+) -> Result<usize, Fault>
     requires { (count ≤ 16) × (table.old ≡ table_of [] []) }
-    ensures { (result ≡ answer 0 (read_arrays count 0 image.now at)) × ArraysLeft (read_arrays count 0 image.now at) table.new }
+    ensures read { result ≡ answer (read_arrays count 0 image.now at) }
+    ensures left { ArraysLeft (read_arrays count 0 image.now at) table.new }
 {
-    let mut k = 0;
-    let mut cells: u32 = 0;
-    let mut a = at;
-    while k < count {
-        let r = word(image, a);
-        let Read::At(w, next) = r else {
-            return r;
-        };
-        if !array_word(cells, w) {
-            return Read::Refused(2, a);
-        }
+    let mut cells = 0;
+    for k in 0..count {
+        let w = word(image, at)?;
+        ensure(array_word(cells, w), Reason::Word, at)?;
         tables::add_array(table, k, w, cells);
         cells += array_length(w);
-        a = next;
-        k += 1;
+        at += 1;
     }
-    Read::At(0, a)
+    Ok(at)
 }

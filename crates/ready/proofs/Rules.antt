@@ -27,24 +27,25 @@ use Rattle.requests.specs.LongImages.{same_read}
 use Rattle.requests.specs.FirstBytes.{first_read, first_loadable}
 use Rattle.laws.specs.Ready.{ready_refused, ready_accepted}
 use Rattle.checker.specs.Left.{passes}
-use Rattle.ready.specs.declared.Ready.{Ready}
-use Rattle.ready.specs.declared.Ready.TheVariants.{Cells, Unready}
+use Rattle.std.proofs.Common.{Result, Ok, Err}
+use Rattle.definitions.specs.declared.Fault.{Fault}
+use Rattle.definitions.specs.Faults.{fault}
 use Rattle.ready.specs.Prepared.{counted_on, readied, table_left, Prepared}
 
 -- ---- counting the cells
 
-pub count_few : (n count cells : ℕ) → cells ≡ n → count < cells → Unready 17 0 ≡ counted_on n count
+pub count_few : (n count cells : ℕ) → cells ≡ n → count < cells → Err (fault 17 0) ≡ counted_on n count
 unfolding counted_on
 count_few n count cells e h = rw (← e, lt-leb cells count h)
 
-pub count_enough : (n count cells : ℕ) → cells ≡ n → cells ≤ count → Cells cells ≡ counted_on n count
+pub count_enough : (n count cells : ℕ) → cells ≡ n → cells ≤ count → Ok cells ≡ counted_on n count
 unfolding counted_on
 count_enough n count cells e h = rw (← e, le-leb cells count h)
 
 -- ---- the verdict
 
 module _ (whole : Bool) (words : List ℕ) (count : ℕ) (c : Checked) (e : c ≡ checked whole words) where
-  pub judge_refused : (k p : ℕ) → c ≡ Refused k p → Unready k p ≡ readied (ready_to_load whole words count)
+  pub judge_refused : (k p : ℕ) → c ≡ Refused k p → Err (fault k p) ≡ readied (ready_to_load whole words count)
   unfolding readied
   judge_refused k p f = rw (ready_refused whole words count k p (sym e ∙ f))
 
@@ -54,7 +55,7 @@ module _ (whole : Bool) (words : List ℕ) (count : ℕ) (c : Checked) (e : c �
         let k = (passes whole words table ends c e f t).known in
         let n = known_count words table k in let few = few_arrays words table k in omega arith
 
-    pub judge_accepted : (r : Ready) → r ≡ counted_on (cell_count (arrays_in table)) count → r ≡ readied (ready_to_load whole words count)
+    pub judge_accepted : (r : Result ℕ Fault) → r ≡ counted_on (cell_count (arrays_in table)) count → r ≡ readied (ready_to_load whole words count)
     unfolding counted_on readied
     judge_accepted r q =
         let p = passes whole words table ends c e f t in
@@ -63,7 +64,7 @@ module _ (whole : Bool) (words : List ℕ) (count : ℕ) (c : Checked) (e : c �
         let same : cell_count (arrays_in table) ≡ cell_count (image_in words).arrays = ap cell_count (known_arrays words table p.known) in
         q ∙ (rw (same, ready_accepted whole words count (image_in words) n read2 (sym e ∙ f)) (go (leb (cell_count (image_in words).arrays) count)))
       where
-        go : (b : Bool) → pick b (Cells (cell_count (image_in words).arrays)) (Unready 17 0) ≡ readied (pick b (ready (image_in words)) (unready 17 0))
+        go : (b : Bool) → pick b (Ok (cell_count (image_in words).arrays)) (Err (fault 17 0)) ≡ readied (pick b (ready (image_in words)) (unready 17 0))
         go true = refl
         go false = refl
 
@@ -90,7 +91,7 @@ module _ (image : List ℕ) (n : ℕ) (words words' : List ℕ) (e : take n word
           rw spelled at s
       go (refused k p) q s = s
 
-  pub load_prepared : n ≡ min (length image / 4) 16384 → drop n words' ≡ drop n words → (count : ℕ) (r : Ready) (table ends : List ℕ)
+  pub load_prepared : n ≡ min (length image / 4) 16384 → drop n words' ≡ drop n words → (count : ℕ) (r : Result ℕ Fault) (table ends : List ℕ)
       → r ≡ readied (ready_to_load whole (take n words') count) → TablesLeft (read_image whole (take n words')) (take n words') table ends
       → Prepared r (ready_to_load (whole_words image) (words_of image) count) image words words' table ends
   load_prepared c b count r table ends a t =
@@ -107,7 +108,7 @@ module _ (image : List ℕ) (h : length image ≡ 0) where
   no_words : length (words_of image) ≡ 0
   no_words = length_words_of image ∙ (rw h)
 
-  pub empty_answer : (count : ℕ) → Unready 20 0 ≡ readied (ready_to_serve (whole_words image) (words_of image) count)
+  pub empty_answer : (count : ℕ) → Err (fault 20 0) ≡ readied (ready_to_serve (whole_words image) (words_of image) count)
   unfolding ready_to_serve readied
   empty_answer count = rw (h, no_words)
 
@@ -120,7 +121,7 @@ module _ (image : List ℕ) (h : length image ≡ 0) where
   empty_table table z = rw empty_read z
 
   pub serve_empty : (count : ℕ) (words table ends : List ℕ) → table ≡ replicate 129 0 → ends ≡ replicate (length ends) 0
-      → Prepared (Unready 20 0) (ready_to_serve (whole_words image) (words_of image) count) image words words table ends
+      → Prepared (Err (fault 20 0)) (ready_to_serve (whole_words image) (words_of image) count) image words words table ends
   unfolding TablesLeft
   serve_empty count words table ends t s =
       let n : min (length image / 4) 16384 ≡ 0 = rw h in
@@ -149,13 +150,13 @@ pub serve_some : (image : List ℕ) → (length image ≡ 0 → ⊥) → (count 
 unfolding ready_to_serve
 serve_some image h count = rw (not_empty image h)
 
-pub some_prepared : (image : List ℕ) → (length image ≡ 0 → ⊥) → (count : ℕ) (r : Ready) (words words' table ends : List ℕ)
+pub some_prepared : (image : List ℕ) → (length image ≡ 0 → ⊥) → (count : ℕ) (r : Result ℕ Fault) (words words' table ends : List ℕ)
     → Prepared r (ready_to_load (whole_words image) (words_of image) count) image words words' table ends
     → Prepared r (ready_to_serve (whole_words image) (words_of image) count) image words words' table ends
 some_prepared image h count r words words' table ends p = rw (serve_some image h count) p
 
 -- the table alone
-pub left_table : (image : List ℕ) (x : Readiness) (r : Ready) (words words' table ends : List ℕ) → Prepared r x image words words' table ends
+pub left_table : (image : List ℕ) (x : Readiness) (r : Result ℕ Fault) (words words' table ends : List ℕ) → Prepared r x image words words' table ends
     → (r ≡ readied x) × (table ≡ table_left (read_image (whole_words image) (words_of image)))
 unfolding TablesLeft table_left
 left_table image x r words words' table ends p = (p.answer, go (read_image (whole_words image) (words_of image)) p.tables)
@@ -165,7 +166,7 @@ left_table image x r words words' table ends p = (p.answer, go (read_image (whol
     go (refused k q) t = t.0
 
 -- a longer image is cut
-pub first_ready : (image : List ℕ) → 65540 < length image → (count : ℕ) (r : Ready) (table : List ℕ)
+pub first_ready : (image : List ℕ) → 65540 < length image → (count : ℕ) (r : Result ℕ Fault) (table : List ℕ)
     → (r ≡ readied (ready_to_load (whole_words (take 65540 image)) (words_of (take 65540 image)) count))
     × (table ≡ table_left (read_image (whole_words (take 65540 image)) (words_of (take 65540 image))))
     → (r ≡ readied (ready_to_load (whole_words image) (words_of image) count)) × (table ≡ table_left (read_image (whole_words image) (words_of image)))

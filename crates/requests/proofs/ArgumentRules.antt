@@ -20,7 +20,7 @@ answer_word type v s e h = rw (← e, ne_eqb s 1 h)
 pub answer_truth : (type v s r : ℕ) → s ≡ type_sort type → s ≡ 1 → r ≡ truth v → r ≡ answered type v
 answer_truth type v s r e h q = rw (← e, eq-eqb s 1 h, q)
 
-length_values : (types vs : List ℕ) → length (argument_values types vs) ≡ length vs
+pub length_values : (types vs : List ℕ) → length (argument_values types vs) ≡ length vs
 unfolding argument_values
 length_values types [] = refl
 length_values [] (v ∷ vs) = refl

@@ -11,9 +11,8 @@ use lib.ListN.{length, get_or, drop, drop_of_length-le, length-take, get_or-eq_d
 use lib.Seq.{drop-cons}
 use Rattle.definitions.specs.Choice.{pick}
 use Rattle.definitions.specs.Image.{array_length, cell_count, base_of}
-use Rattle.requests.specs.declared.cells.Slot.{Slot}
-use Rattle.requests.specs.declared.cells.Slot.TheVariants.{At, Nothing}
 use Rattle.tables.specs.Table.{array_count_in, arrays_in, base_in}
+use Rattle.std.proofs.Common.{Option, Some, None}
 use Rattle.requests.specs.Cells.{has_cell_in, slot_in, Fits}
 
 false_true : {A : Type 0} → false ≡ true → A
@@ -61,7 +60,7 @@ base_within (w ∷ ws) zero h = omega arith
 base_within (w ∷ ws) (suc a) h = let s = base_within ws a (omega arith) in omega arith
 
 module _ (table : List ℕ) (a i : ℕ) (n b : ℕ) (hn : n ≡ array_count_in table) (hb : b ≡ a) where
-  pub no_array : n ≤ b → Nothing ≡ slot_in table a i
+  pub no_array : n ≤ b → None ≡ slot_in table a i
   unfolding slot_in
   no_array h = rw (le-ltb a (array_count_in table) (omega arith))
 
@@ -69,22 +68,22 @@ module _ (table : List ℕ) (a i : ℕ) (n b : ℕ) (hn : n ≡ array_count_in t
     size : l ≡ array_length (get_or (arrays_in table) a 0)
     size = hl ∙ ap array_length hw
 
-    pub no_cell : l ≤ i → Nothing ≡ slot_in table a i
+    pub no_cell : l ≤ i → None ≡ slot_in table a i
     unfolding slot_in
     no_cell g = rw (lt-ltb a (array_count_in table) (omega arith), ← size, le-ltb i l g)
 
-    pub cell_found : (base c j : ℕ) → base ≡ base_in table a → c ≡ base → j ≡ i → i < l → At (c + j) ≡ slot_in table a i
+    pub cell_found : (base c j : ℕ) → base ≡ base_in table a → c ≡ base → j ≡ i → i < l → Some (c + j) ≡ slot_in table a i
     unfolding slot_in
     cell_found base c j e hc hj g = rw (lt-ltb a (array_count_in table) (omega arith), ← size, lt-ltb i l g, hc, hj, e)
 
 -- the two ways out of finding a cell
-module _ (table : List ℕ) (a i count : ℕ) (fits : Fits table count) (s : Slot) (e : s ≡ slot_in table a i) where
-  pub slot_at : (n : ℕ) → s ≡ At n → (has_cell_in (arrays_in table) a i ≡ true) × (n ≡ base_of (arrays_in table) a + i)
+module _ (table : List ℕ) (a i count : ℕ) (fits : Fits table count) (s : Option ℕ) (e : s ≡ slot_in table a i) where
+  pub slot_at : (n : ℕ) → s ≡ Some n → (has_cell_in (arrays_in table) a i ≡ true) × (n ≡ base_of (arrays_in table) a + i)
   unfolding slot_in
   slot_at n f = go (ltb a (array_count_in table)) (ltb i (array_length (get_or (arrays_in table) a 0))) refl refl (sym f ∙ e)
     where
       go : (b d : Bool) → ltb a (array_count_in table) ≡ b → ltb i (array_length (get_or (arrays_in table) a 0)) ≡ d
-          → At n ≡ pick (b && d) (At (base_in table a + i)) Nothing → (has_cell_in (arrays_in table) a i ≡ true) × (n ≡ base_of (arrays_in table) a + i)
+          → Some n ≡ pick (b && d) (Some (base_in table a + i)) None → (has_cell_in (arrays_in table) a i ≡ true) × (n ≡ base_of (arrays_in table) a + i)
       go true true p q r =
           let l = ltb-true a (array_count_in table) p in
           let m : n ≡ base_in table a + i = cc in
@@ -92,11 +91,11 @@ module _ (table : List ℕ) (a i count : ℕ) (fits : Fits table count) (s : Slo
       go true false p q r = (cc, cc)
       go false d p q r = (cc, cc)
 
-  pub slot_nothing : s ≡ Nothing → has_cell_in (arrays_in table) a i ≡ false
+  pub slot_nothing : s ≡ None → has_cell_in (arrays_in table) a i ≡ false
   unfolding slot_in
   slot_nothing f = rw fits.listed (go (ltb a (array_count_in table) && ltb i (array_length (get_or (arrays_in table) a 0))) (sym f ∙ e))
     where
-      go : (b : Bool) → Nothing ≡ pick b (At (base_in table a + i)) Nothing → b ≡ false
+      go : (b : Bool) → None ≡ pick b (Some (base_in table a + i)) None → b ≡ false
       go true q = cc
       go false q = refl
 

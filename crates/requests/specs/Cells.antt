@@ -1,21 +1,19 @@
 -- Which cells the arrays of an image have. Assumes nothing.
-use Rattle.std.specs.Prelude.{◌≡◌, Bool, ◌&&◌, List, ℕ, ◌+◌, ◌≤◌, ◌<◌, ltb, length, get_or}
+use Rattle.std.specs.Prelude.{◌≡◌, Bool, ◌&&◌, List, Option, Some, None, ℕ, ◌+◌, ◌≤◌, ◌<◌, ltb, length, get_or}
 use Rattle.std.proofs.Common.{sym, ap, ◌∙◌}
 use Rattle.definitions.specs.Choice.{pick}
 use Rattle.definitions.specs.Image.{array_length, base_of, cell_count}
 use Rattle.laws.specs.ImageIn.{image_in}
 use Rattle.tables.specs.Table.{array_count_in, arrays_in, base_in, Known}
 use Rattle.tables.specs.Looking.{known_arrays, known_count, known_base, few_cells}
-use Rattle.requests.specs.declared.cells.Slot.{Slot}
-use Rattle.requests.specs.declared.cells.Slot.TheVariants.{At, Nothing}
 
 -- `has_cell` of the definitions, on array words
 abbrev pub has_cell_in : List ℕ → ℕ → ℕ → Bool
 has_cell_in arrays a i = ltb a (length arrays) && ltb i (array_length (get_or arrays a 0))
 
 -- where cell i of array a stands among all cells, by the table
-unfoldable pub slot_in : List ℕ → ℕ → ℕ → Slot
-slot_in table a i = pick (ltb a (array_count_in table) && ltb i (array_length (get_or (arrays_in table) a 0))) (At (base_in table a + i)) Nothing
+unfoldable pub slot_in : List ℕ → ℕ → ℕ → Option ℕ
+slot_in table a i = pick (ltb a (array_count_in table) && ltb i (array_length (get_or (arrays_in table) a 0))) (Some (base_in table a + i)) None
 
 -- the arrays of an accepted image, and a machine with as many cells as they have
 pub record Fits (table : List ℕ) (count : ℕ) : Type 0 where

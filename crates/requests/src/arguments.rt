@@ -14,21 +14,20 @@ pub const MOST: usize = 9;
 pub fn answer_of(word: u32, v: u32) -> u32
     ensures { result ≡ answered word v }
 {
-    if type_sort(word) != BOOLEAN {
-        return v;
+    if type_sort(word) == BOOLEAN {
+        truth(v)
+    } else {
+        v
     }
-    truth(v)
 }
 
 // The arguments at the front of an array of zeros. The type words are those of the called procedure's variables, its parameters first.
+#[tactic(auto, using(crate::proofs::ArgumentRules::filling_none, crate::proofs::ArgumentRules::filling_done))]
 pub fn fill_values(arguments: &[u8], types: &[u32], values: &mut [u32; MOST])
     requires { (length arguments.now / 4 ≤ length types.now) × (length arguments.now / 4 ≤ 9) × (values.old ≡ replicate 9 0) }
     ensures { values.new ≡ padded 9 (argument_values types.now (words_of arguments.now)) }
 {
-    let count = arguments.len() / 4;
-    let mut k = 0;
-    while k < count {
+    for k in 0..arguments.len() / 4 {
         values[k] = answer_of(types[k], words::word(arguments, k));
-        k += 1;
     }
 }

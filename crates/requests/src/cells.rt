@@ -6,40 +6,27 @@ ghost use Rattle.requests.specs.Cells.{slot_in};
 
 use image_words::array_length;
 use image_words::lists::wide;
-use tables::{SIZE, array, array_count, base};
-
-// Where a cell stands among all cells, if there is such a cell.
-#[derive(Clone, Copy)]
-pub enum Slot {
-    At(usize),
-    Nothing,
-}
+use tables::{Table, array, array_count, base};
 
 // The number of cells of all arrays.
-pub fn cell_count(table: &[u32; SIZE]) -> usize
+pub fn cell_count(table: &Table) -> usize
     requires { array_count_in table.now ≤ 16 }
     ensures { result ≡ cell_count (arrays_in table.now) }
 {
-    let count = array_count(table);
     let mut total = 0;
-    let mut k: u32 = 0;
-    while wide(k) < count {
+    for k in 0..array_count(table) as u32 {
         total += wide(array_length(array(table, k)));
-        k += 1;
     }
     total
 }
 
-// Cell i of array a.
+// Where cell i of array a stands among all cells, if there is such a cell.
 #[tactic(auto, using(crate::proofs::CellRules::no_array, crate::proofs::CellRules::no_cell, crate::proofs::CellRules::cell_found))]
-pub fn find_cell(table: &[u32; SIZE], a: u32, i: u32) -> Slot
+pub fn find_cell(table: &Table, a: u32, i: u32) -> Option<usize>
     ensures { result ≡ slot_in table.now a i }
 {
-    if array_count(table) <= wide(a) {
-        return Slot::Nothing;
+    if array_count(table) <= wide(a) || array_length(array(table, a)) <= i {
+        return None;
     }
-    if array_length(array(table, a)) <= i {
-        return Slot::Nothing;
-    }
-    Slot::At(wide(base(table, a)) + wide(i))
+    Some(wide(base(table, a)) + wide(i))
 }

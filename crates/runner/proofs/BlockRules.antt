@@ -13,172 +13,194 @@ use Rattle.laws.specs.ImageIn.{image_in}
 use Rattle.laws.specs.Parses.{ok, end_of, ok_of, got_ok, end_of_lem}
 use Rattle.image_words.specs.Read.{StatementRead, BlockRead, statements_at}
 use Rattle.image_words.specs.StatementParts.{no_statement, first_statement, read_statement_lem, block_statements}
-use Rattle.tables.specs.Table.{params_in}
-use Rattle.tracing.specs.Log.{Log, log, byte_trace}
+use Rattle.reasons.specs.Numbers.{reason_number}
+use Rattle.reasons.specs.declared.Reason.TheVariants.{BudgetSpent}
+use Rattle.std.specs.Prelude.{Ok}
+use Rattle.tracing.specs.declared.Stop.{Stop}
+use Rattle.tracing.specs.Log.{Log, byte_trace}
+use Rattle.tracing.specs.Answers.{logged}
 use Rattle.simple_statements.specs.declared.Ran.{Ran}
-use Rattle.simple_statements.specs.declared.Ran.TheVariants.{On, Back, Stop as Halt}
-use Rattle.simple_statements.specs.Runs.{Went, went, finished, placed, ending, callees, statement_at}
+use Rattle.simple_statements.specs.declared.Ran.TheVariants.{On, Back}
+use Rattle.simple_statements.specs.declared.State.{State}
+use Rattle.simple_statements.specs.Runs.{Went, went, gone, finished, placed, ending, callees, statement_at}
 use Rattle.runner.specs.Runs.{block_at, passes_at}
-use Rattle.runner.specs.Results.{ending_on}
 
--- ---- an answer that ends the run: a return or a stop
+-- ---- what follows a statement or a pass: nothing after a return
 
-abbrev pub Ended : Ran → Type 0
-Ended r = (m u z : ℕ) → r ≡ On m u z → ⊥
+pub follow : (ℕ → ℕ → Log → List ℕ → List ℕ → Run Log Went) → Went → ℕ → Log → Run Log Went
+follow f (went n vs cs) z t = f n z t vs cs
+follow f (gone v cs) z t = on (gone v cs) z t
 
-not_on : (r : Ran) → Ended r → (vs cs slice : List ℕ) (n : ℕ) (ws ds : List ℕ) (i : ℕ) (t : Log) → finished r vs cs slice ≡ on (went n ws ds) i t → ⊥
-unfolding finished
-not_on (On m u z) e vs cs slice n ws ds i t d = e m u z refl
-not_on (Back v u z) e vs cs slice n ws ds i t d = cc
-not_on (Halt k q u z) e vs cs slice n ws ds i t d = cc
+-- a run that goes on where the code does, with what follows it placed at m
+followed : (n m : ℕ) (x : Run Log Outcome) (f : Body Log) (g : ℕ → ℕ → Log → List ℕ → List ℕ → Run Log Went)
+    → ((z : ℕ) (t : Log) (vs cs : List ℕ) → ending m (f z t vs cs) ≡ g n z t vs cs) → ending m (and_go x (after f)) ≡ and_go (ending n x) (follow g)
+unfolding ending placed follow
+followed n m (on (next vs cs) z t) f g k = k z t vs cs
+followed n m (on (back v cs) z t) f g k = refl
+followed n m (halt i q z t) f g k = refl
 
--- what would follow it does not
-pub ended : (r : Ran) → Ended r → (vs cs slice : List ℕ) (n : ℕ) (x : Run Log Outcome) → finished r vs cs slice ≡ ending n x
-    → (m : ℕ) (f : Body Log) → finished r vs cs slice ≡ ending m (and_go x (after f))
-unfolding ending placed
-ended r e vs cs slice n (on (next ws ds) i t) d m f =
-    absurd (not_on r e vs cs slice n ws ds i t d)
-ended r e vs cs slice n (on (back v ds) i t) d m f = d
-ended r e vs cs slice n (halt k q i t) d m f = d
-
-pub ended_same : (r : Ran) → Ended r → (vs cs slice : List ℕ) (n : ℕ) (x : Run Log Outcome) → finished r vs cs slice ≡ ending n x
-    → (m : ℕ) → finished r vs cs slice ≡ ending m x
-unfolding ending placed
-ended_same r e vs cs slice n (on (next ws ds) i t) d m =
-    absurd (not_on r e vs cs slice n ws ds i t d)
-ended_same r e vs cs slice n (on (back v ds) i t) d m = d
-ended_same r e vs cs slice n (halt k q i t) d m = d
-
--- ---- answers of a run, where the tree is known
-
-module _ (budget : ℕ) (program : Image) (me l z : ℕ) (t : Log) (vs cs : List ℕ) (x : Parse Statement) (s : Statement) (n : ℕ) (w : x ≡ got s n)
-    (r : Ran) (vs1 cs1 slice1 : List ℕ) (d : finished r vs1 cs1 slice1 ≡ statement_at budget program me l z t vs cs x) where
-  at_statement : finished r vs1 cs1 slice1 ≡ ending n (run_statement byte_trace budget program.arrays (callees budget program me) l s z t vs cs)
-  unfolding statement_at
-  at_statement = rw w at d
-
-  statement_on : (c u2 z2 : ℕ) → r ≡ On c u2 z2
-      → (run_statement byte_trace budget program.arrays (callees budget program me) l s z t vs cs ≡ on (next vs1 cs1) z2 (log u2 slice1)) × (n ≡ c)
-  statement_on c u2 z2 e = ending_on r vs1 cs1 slice1 n _ at_statement c u2 z2 e
-
-module _ (budget : ℕ) (program : Image) (me z : ℕ) (t : Log) (vs cs : List ℕ) (x : Parse Block) (b : Block) (n : ℕ) (w : x ≡ got b n)
-    (r : Ran) (vs1 cs1 slice1 : List ℕ) (d : finished r vs1 cs1 slice1 ≡ block_at budget program me z t vs cs x) where
-  pub at_block : finished r vs1 cs1 slice1 ≡ ending n (run_block byte_trace budget program.arrays (callees budget program me) b z t vs cs)
-  unfolding block_at
-  at_block = rw w at d
-
-  pub block_on : (c u2 z2 : ℕ) → r ≡ On c u2 z2
-      → (run_block byte_trace budget program.arrays (callees budget program me) b z t vs cs ≡ on (next vs1 cs1) z2 (log u2 slice1)) × (n ≡ c)
-  block_on c u2 z2 e = ending_on r vs1 cs1 slice1 n _ at_block c u2 z2 e
-
--- a run that goes on goes on behind the block
+-- a block's run that goes on goes on behind it
 pub block_end : (budget : ℕ) (program : Image) (me z : ℕ) (t : Log) (vs cs : List ℕ) (x : Parse Block) → ok x ≡ true
-    → (r : Ran) (vs1 cs1 slice1 : List ℕ) → finished r vs1 cs1 slice1 ≡ block_at budget program me z t vs cs x
-    → (c u2 z2 : ℕ) → r ≡ On c u2 z2 → c ≡ end_of x
-block_end budget program me z t vs cs x o r vs1 cs1 slice1 d c u2 z2 e =
+    → (c : ℕ) (vs1 cs1 : List ℕ) (z1 : ℕ) (t1 : Log) → on (went c vs1 cs1) z1 t1 ≡ block_at budget program me z t vs cs x → c ≡ end_of x
+unfolding block_at ending placed
+block_end budget program me z t vs cs x o c vs1 cs1 z1 t1 d =
     let (b, n, w) = got_ok x o in
-    let (y, q) = block_on budget program me z t vs cs x b n w r vs1 cs1 slice1 d c u2 z2 e in
-    sym q ∙ sym (end_of_lem x b n w)
+    place n (run_block byte_trace budget program.arrays (callees budget program me) b z t vs cs) (rw w at d) ∙ sym (end_of_lem x b n w)
+  where
+    place : (n : ℕ) (y : Run Log Outcome) → on (went c vs1 cs1) z1 t1 ≡ and_go y (placed n) → c ≡ n
+    place n (on (next ws ds) i s) e = cc
+    place n (on (back v ds) i s) e = cc
+    place n (halt i q j s) e = cc
 
 -- ---- a block's statements
 
-module _ (l : ℕ) (image table : List ℕ) (me at : ℕ) (g : BlockRead l (params_in table) me image at) (count : ℕ) (h : count ≡ payload_of (get_or image at 0)) where
-  block_is : statements_at (count - 0) (l - 1) (params_in table) me image (at + 1) ≡ read_block l (params_in table) me image at
+module _ (l : ℕ) (image params : List ℕ) (me at : ℕ) (g : BlockRead l params me image at) (count : ℕ) (h : count ≡ payload_of (get_or image at 0)) where
+  block_is : statements_at (count - 0) (l - 1) params me image (at + 1) ≡ read_block l params me image at
   block_is =
-      let e : count - 0 ≡ count = omega arith in rw (e, h) (sym (block_statements l (params_in table) me image at g.read).1)
+      let e : count - 0 ≡ count = omega arith in rw (e, h) (sym (block_statements l params me image at g.read).1)
 
-  pub block_begin_ok : ok (statements_at (count - 0) (l - 1) (params_in table) me image (at + 1)) ≡ true
+  pub block_begin_ok : ok (statements_at (count - 0) (l - 1) params me image (at + 1)) ≡ true
   block_begin_ok = ap ok block_is ∙ g.read
 
   pub block_begin : (budget z : ℕ) (t : Log) (vs cs : List ℕ)
-      → block_at budget (image_in image) me z t vs cs (statements_at (count - 0) (l - 1) (params_in table) me image (at + 1))
-      ≡ block_at budget (image_in image) me z t vs cs (read_block l (params_in table) me image at)
+      → block_at budget (image_in image) me z t vs cs (statements_at (count - 0) (l - 1) params me image (at + 1))
+      ≡ block_at budget (image_in image) me z t vs cs (read_block l params me image at)
   block_begin budget z t vs cs = ap (block_at budget (image_in image) me z t vs cs) block_is
 
-module _ (n l : ℕ) (image table : List ℕ) (me budget : ℕ) (vs cs slice : List ℕ) (k a u z : ℕ) (X : Run Log Went)
-    (i : block_at budget (image_in image) me z (log u slice) vs cs (statements_at (n - k) l (params_in table) me image a) ≡ X) where
-  pub block_done : n ≤ k → finished (On a u z) vs cs slice ≡ X
-  unfolding block_at ending placed finished run_statement run_block
-  block_done h =
+module _ (n l : ℕ) (image params : List ℕ) (me k a : ℕ) where
+  pub block_done : (budget : ℕ) (vs cs : List ℕ) (z : ℕ) (t : Log) (X : Run Log Went)
+      → block_at budget (image_in image) me z t vs cs (statements_at (n - k) l params me image a) ≡ X → n ≤ k → on (went a vs cs) z t ≡ X
+  unfolding block_at ending placed run_statement run_block
+  block_done budget vs cs z t X i h =
       let e : n - k ≡ 0 = omega arith in
-      let p : block_at budget (image_in image) me z (log u slice) vs cs (statements_at 0 l (params_in table) me image a) ≡ X = rw e at i in
-      (rw (no_statement l (params_in table) me image a)) ∙ p
+      let p : block_at budget (image_in image) me z t vs cs (statements_at 0 l params me image a) ≡ X = rw e at i in
+      (rw (no_statement l params me image a)) ∙ p
 
-  module _ (h : k < n) (t : ok (statements_at (n - k) l (params_in table) me image a) ≡ true) where
+  module _ (o : ok (statements_at (n - k) l params me image a) ≡ true) (h : k < n) where
     -- the next statement and those after it
-    statements_next : (s : Statement) × (m : ℕ) × (b : Block) × (o : ℕ)
-        × (read_statement l (params_in table) me image a ≡ got s m) × (statements_at (n - (k + 1)) l (params_in table) me image m ≡ got b o)
-        × (statements_at (n - k) l (params_in table) me image a ≡ got (sequence a s b) o)
+    statements_next : (s : Statement) × (m : ℕ) × (b : Block) × (p : ℕ)
+        × (read_statement l params me image a ≡ got s m) × (statements_at (n - (k + 1)) l params me image m ≡ got b p)
+        × (statements_at (n - k) l params me image a ≡ got (sequence a s b) p)
     statements_next =
         let e : n - (k + 1) ≡ n - k - 1 = omega arith in
-        rw e (first_statement (n - k) l (params_in table) me image a t (omega arith))
+        rw e (first_statement (n - k) l params me image a o (omega arith))
 
-    pub statement_read : StatementRead l (params_in table) me image a
-    statement_read = read_statement_lem (n - k) l (params_in table) me image a t (omega arith)
+    pub statement_read : StatementRead l params me image a
+    statement_read = read_statement_lem (n - k) l params me image a o (omega arith)
 
-    pub block_spent : budget ≤ z → finished (Halt 21 a u z) vs cs slice ≡ X
-    unfolding block_at ending finished run_statement run_block tick
-    block_spent q = let (s, m, b, o, w, v, p) = statements_next in (rw (p, le-ltb z budget q)) ∙ i
+    module _ (budget : ℕ) (vs cs : List ℕ) (z : ℕ) (t : Log) where
+      -- the run of the next statement
+      abbrev begun : Run Log Went
+      begun = statement_at budget (image_in image) me a (z + 1) t vs cs (read_statement l params me image a)
 
-    module _ (y : z < budget) (r : Ran) (vs1 cs1 slice1 : List ℕ)
-        (d : finished r vs1 cs1 slice1 ≡ statement_at budget (image_in image) me a (z + 1) (log u slice) vs cs (read_statement l (params_in table) me image a)) where
-      pub block_ended : Ended r → finished r vs1 cs1 slice1 ≡ X
-      unfolding block_at run_statement run_block tick
-      block_ended e =
-          let (s, m, b, o, w, v, p) = statements_next in
-          (rw (p, lt-ltb z budget y)
-          (ended r e vs1 cs1 slice1 m _ (at_statement budget (image_in image) me a (z + 1) (log u slice) vs cs _ s m w r vs1 cs1 slice1 d) o _)) ∙ i
+      pub block_ok : (r : Ran) (c : ℕ) (vs1 : List ℕ) (st : State) → finished (Ok r) vs1 st ≡ begun → r ≡ On c
+          → ok (statements_at (n - (k + 1)) l params me image c) ≡ true
+      unfolding statement_at ending placed
+      block_ok r c vs1 st d e =
+          let (s, m, b, p, w, v, f) = statements_next in
+          let g : on (went c vs1 st.cells.now) st.steps (logged st.trace.now) ≡ begun = rw e at d in
+          let q = place m (run_statement byte_trace budget (image_in image).arrays (callees budget (image_in image) me) a s (z + 1) t vs cs) (rw w at g) in
+          ok_of _ b p (rw q at v)
+        where
+          place : (m : ℕ) (y : Run Log Outcome) → on (went c vs1 st.cells.now) st.steps (logged st.trace.now) ≡ and_go y (placed m) → m ≡ c
+          place m (on (next ws ds) j s) f = cc
+          place m (on (back v ds) j s) f = cc
+          place m (halt i q j s) f = cc
 
-      module _ (c u2 z2 : ℕ) (e : r ≡ On c u2 z2) where
-        pub block_ok : ok (statements_at (n - (k + 1)) l (params_in table) me image c) ≡ true
-        block_ok =
-            let (s, m, b, o, w, v, p) = statements_next in
-            let (f, q) = statement_on budget (image_in image) me a (z + 1) (log u slice) vs cs _ s m w r vs1 cs1 slice1 d c u2 z2 e in
-            ok_of _ b o (rw q at v)
+      module _ (X : Run Log Went) (i : block_at budget (image_in image) me z t vs cs (statements_at (n - k) l params me image a) ≡ X) where
+        pub block_spent : (s : Stop) → budget ≤ z → s.reason ≡ BudgetSpent → s.place ≡ a → halt (reason_number s.reason) s.place z t ≡ X
+        unfolding block_at ending run_statement run_block tick
+        block_spent s q e f =
+            let (u, m, b, p, w, v, x) = statements_next in
+            let spent : halt 21 a z t ≡ X = (rw (x, le-ltb z budget q)) ∙ i in
+            rw (e, f) spent
 
-        pub block_more : block_at budget (image_in image) me z2 (log u2 slice1) vs1 cs1 (statements_at (n - (k + 1)) l (params_in table) me image c) ≡ X
-        unfolding block_at run_statement run_block tick
-        block_more =
-            let (s, m, b, o, w, v, p) = statements_next in
-            let (f, q) = statement_on budget (image_in image) me a (z + 1) (log u slice) vs cs _ s m w r vs1 cs1 slice1 d c u2 z2 e in
-            let v2 : statements_at (n - (k + 1)) l (params_in table) me image c ≡ got b o = rw q at v in
-            (rw (v2, p, lt-ltb z budget y, f)) ∙ i
+        module _ (y : z < budget) where
+          -- the statement, then the block that is left
+          block_opened : and_go begun
+              (follow (λ c z1 t1 vs1 cs1. block_at budget (image_in image) me z1 t1 vs1 cs1 (statements_at (n - (k + 1)) l params me image c))) ≡ X
+          unfolding block_at statement_at run_statement run_block tick
+          block_opened =
+              let (s, m, b, p, w, v, e) = statements_next in
+              (rw w (sym (followed m p (run_statement byte_trace budget (image_in image).arrays (callees budget (image_in image) me) a s (z + 1) t vs cs)
+              (λ z1 t1 vs1 cs1. run_block byte_trace budget (image_in image).arrays (callees budget (image_in image) me) b z1 t1 vs1 cs1)
+              (λ c z1 t1 vs1 cs1. block_at budget (image_in image) me z1 t1 vs1 cs1 (statements_at (n - (k + 1)) l params me image c))
+              (λ z1 t1 vs1 cs1. rw v))))
+              ∙ (rw (e, lt-ltb z budget y) at i)
+
+          pub block_stopped : (j q z1 : ℕ) (t1 : Log) → halt j q z1 t1 ≡ begun → halt j q z1 t1 ≡ X
+          block_stopped j q z1 t1 d = rw (← d) at block_opened
+
+          module _ (r : Ran) (vs1 : List ℕ) (st : State) (d : finished (Ok r) vs1 st ≡ begun) where
+            pub block_returned : (v : ℕ) → r ≡ Back v → on (gone v st.cells.now) st.steps (logged st.trace.now) ≡ X
+            unfolding follow
+            block_returned v e =
+                let f : on (gone v st.cells.now) st.steps (logged st.trace.now) ≡ begun = rw e at d in rw (← f) at block_opened
+
+            pub block_more : (c : ℕ) → r ≡ On c
+                → block_at budget (image_in image) me st.steps (logged st.trace.now) vs1 st.cells.now (statements_at (n - (k + 1)) l params me image c) ≡ X
+            unfolding follow
+            block_more c e =
+                let f : on (went c vs1 st.cells.now) st.steps (logged st.trace.now) ≡ begun = rw e at d in rw (← f) at block_opened
 
 -- ---- a for's passes
 
-module _ (l : ℕ) (image table : List ℕ) (me body : ℕ) (g : BlockRead l (params_in table) me image body) (budget at x after : ℕ) (vs cs slice : List ℕ)
-    (to i u z : ℕ) (X : Run Log Went)
-    (inv : passes_at budget (image_in image) me at x (to - i) i after z (log u slice) vs cs (read_block l (params_in table) me image body) ≡ X) where
-  pub passes_done : to ≤ i → finished (On after u z) vs cs slice ≡ X
-  unfolding passes_at ending placed finished passes
+module _ (l : ℕ) (image params : List ℕ) (me body : ℕ) (g : BlockRead l params me image body) (budget at x after_it : ℕ) (vs cs : List ℕ)
+    (to i z : ℕ) (t : Log) (X : Run Log Went)
+    (inv : passes_at budget (image_in image) me at x (to - i) i after_it z t vs cs (read_block l params me image body) ≡ X) where
+  pub passes_done : to ≤ i → on (went after_it vs cs) z t ≡ X
+  unfolding passes_at ending placed passes
   passes_done h =
-      let (b, m, w) = got_ok (read_block l (params_in table) me image body) g.read in let e : to - i ≡ 0 = omega arith in (rw (w, e)) ∙ inv
+      let (b, m, w) = got_ok (read_block l params me image body) g.read in let e : to - i ≡ 0 = omega arith in (rw (w, e)) ∙ inv
 
   module _ (h : i < to) where
     more : to - i ≡ suc (to - (i + 1))
     more = omega arith
 
-    pub passes_spent : budget ≤ z → finished (Halt 21 at u z) vs cs slice ≡ X
-    unfolding passes_at ending finished passes tick
-    passes_spent q =
-        let (b, m, w) = got_ok (read_block l (params_in table) me image body) g.read in (rw (w, more, le-ltb z budget q)) ∙ inv
+    pub passes_spent : (s : Stop) → budget ≤ z → s.reason ≡ BudgetSpent → s.place ≡ at → halt (reason_number s.reason) s.place z t ≡ X
+    unfolding passes_at ending passes tick
+    passes_spent s q e f =
+        let (b, m, w) = got_ok (read_block l params me image body) g.read in
+        let spent : halt 21 at z t ≡ X = (rw (w, more, le-ltb z budget q)) ∙ inv in
+        rw (e, f) spent
 
-    module _ (y : z < budget) (v : ℕ) (hv : v ≡ x) (vs0 : List ℕ) (f : vs0 ≡ set vs v i) (r : Ran) (vs1 cs1 slice1 : List ℕ)
-        (d : finished r vs1 cs1 slice1 ≡ block_at budget (image_in image) me (z + 1) (log u slice) vs0 cs (read_block l (params_in table) me image body)) where
+    module _ (y : z < budget) (v : ℕ) (vs0 : List ℕ) (f : vs0 ≡ set vs v i) (hv : v ≡ x) where
       set_is : set vs x i ≡ vs0
       set_is = sym (f ∙ ap (λ (q : ℕ). set vs q i) hv)
 
-      pub passes_ended : Ended r → finished r vs1 cs1 slice1 ≡ X
-      unfolding passes_at passes tick
-      passes_ended e =
-          let (b, m, w) = got_ok (read_block l (params_in table) me image body) g.read in
-          (rw (w, more, lt-ltb z budget y, set_is)
-          (ended r e vs1 cs1 slice1 m _ (at_block budget (image_in image) me (z + 1) (log u slice) vs0 cs _ b m w r vs1 cs1 slice1 d) after _)) ∙ inv
+      -- the block, then the passes that are left
+      passes_opened : and_go (block_at budget (image_in image) me (z + 1) t vs0 cs (read_block l params me image body))
+          (follow (λ c z1 t1 vs1 cs1. passes_at budget (image_in image) me at x (to - (i + 1)) (i + 1) after_it z1 t1 vs1 cs1 (read_block l params me image body))) ≡ X
+      unfolding block_at passes_at passes tick
+      passes_opened = let (b, m, w) = got_ok (read_block l params me image body) g.read in go b m w
+        where
+          go : (b : Block) (m : ℕ) → read_block l params me image body ≡ got b m
+              → and_go (block_at budget (image_in image) me (z + 1) t vs0 cs (read_block l params me image body))
+              (follow (λ c z1 t1 vs1 cs1. passes_at budget (image_in image) me at x (to - (i + 1)) (i + 1) after_it z1 t1 vs1 cs1 (read_block l params me image body))) ≡ X
+          go b m w =
+              (rw w (sym (followed m after_it (run_block byte_trace budget (image_in image).arrays (callees budget (image_in image) me) b (z + 1) t vs0 cs)
+              (λ z1 t1 vs1 cs1. passes budget at x
+              (λ y1 u us ds. run_block byte_trace budget (image_in image).arrays (callees budget (image_in image) me) b y1 u us ds) (to - (i + 1)) (i + 1) z1 t1 vs1 cs1)
+              (λ c z1 t1 vs1 cs1. ending after_it (passes budget at x
+              (λ y1 u us ds. run_block byte_trace budget (image_in image).arrays (callees budget (image_in image) me) b y1 u us ds) (to - (i + 1)) (i + 1) z1 t1 vs1 cs1))
+              (λ z1 t1 vs1 cs1. refl))))
+              ∙ (rw (w, more, lt-ltb z budget y, set_is) at inv)
 
-      pub passes_more : (c u2 z2 : ℕ) → r ≡ On c u2 z2
-          → passes_at budget (image_in image) me at x (to - (i + 1)) (i + 1) after z2 (log u2 slice1) vs1 cs1 (read_block l (params_in table) me image body) ≡ X
-      unfolding passes_at passes tick
-      passes_more c u2 z2 e =
-          let (b, m, w) = got_ok (read_block l (params_in table) me image body) g.read in
-          let (q, p) = block_on budget (image_in image) me (z + 1) (log u slice) vs0 cs _ b m w r vs1 cs1 slice1 d c u2 z2 e in
-          (rw (w, more, lt-ltb z budget y, set_is, q)) ∙ inv
+      -- the run of the block
+      abbrev pass : Run Log Went
+      pass = block_at budget (image_in image) me (z + 1) t vs0 cs (read_block l params me image body)
+
+      pub passes_stopped : (j q z1 : ℕ) (t1 : Log) → halt j q z1 t1 ≡ pass → halt j q z1 t1 ≡ X
+      passes_stopped j q z1 t1 d = rw (← d) at passes_opened
+
+      module _ (r : Ran) (vs1 : List ℕ) (st : State) (d : finished (Ok r) vs1 st ≡ pass) where
+        pub passes_returned : (u : ℕ) → r ≡ Back u → on (gone u st.cells.now) st.steps (logged st.trace.now) ≡ X
+        unfolding follow
+        passes_returned u e =
+            let k : on (gone u st.cells.now) st.steps (logged st.trace.now) ≡ pass = rw e at d in rw (← k) at passes_opened
+
+        pub passes_more : (c : ℕ) → r ≡ On c
+            → passes_at budget (image_in image) me at x (to - (i + 1)) (i + 1) after_it st.steps (logged st.trace.now) vs1 st.cells.now (read_block l params me image body) ≡ X
+        unfolding follow
+        passes_more c e =
+            let k : on (went c vs1 st.cells.now) st.steps (logged st.trace.now) ≡ pass = rw e at d in rw (← k) at passes_opened

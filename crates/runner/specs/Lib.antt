@@ -1,4 +1,3 @@
 pub mod Runs
-pub mod Results
 pub mod Callees
 pub mod Executions

@@ -1,195 +1,149 @@
 // Blocks, and the statements that run blocks: a cycle of calls under a falling level; a call goes to a lower procedure.
-ghost use Rattle.std.specs.Prelude.{◌≡◌, ◌-◌, ◌<◌, ◌≤◌, get_or};
+ghost use Rattle.std.specs.Prelude.{◌≡◌, ◌+◌, ◌-◌, ◌<◌, ◌≤◌, get_or, MatchResult};
 ghost use Rattle.definitions.specs.Image.{op_of};
-ghost use Rattle.definitions.specs.Reading.{read_statement, read_block};
-ghost use Rattle.laws.specs.ImageIn.{image_in};
 ghost use Rattle.image_words.specs.Read.{StatementRead, BlockRead};
 ghost use Rattle.tables.specs.Table.{params_in};
-ghost use Rattle.tracing.specs.Log.{log};
-ghost use Rattle.simple_statements.specs.Runs.{finished, statement_at};
-ghost use Rattle.runner.specs.Runs.{Ready, framed, returned, block_at, passes_at, procedure_run};
+ghost use Rattle.simple_statements.specs.Runs.{SameLent, finished, statement_run};
+ghost use Rattle.runner.specs.Runs.{Ready, framed, returned, block_run, passes_run, body_run};
 
-use super::Finished;
-use evaluator::{CELLS, VARIABLES};
+use evaluator::{Memory, VARIABLES};
 use image_words::limits::largest_level;
 use image_words::lists::{put, wide};
-use image_words::{called, form, op, ops, payload, result, target};
-use reader::statement_words::block_end;
-use simple_statements::parts::{arguments, branch, range, stopped};
+use image_words::ops::{self, Op};
+use image_words::{called, payload, result, target};
+use reader::statement_words::ProcedureReader;
+use reasons::Reason;
+use simple_statements::parts::{arguments, branch, range};
 use simple_statements::statement_words::{run_assign, run_return, run_store};
-use simple_statements::{Bounds, PARAMETERS, Point, Ran, Scope};
-use tables::SIZE;
-use tracing::Value;
+use simple_statements::{Bounds, PARAMETERS, Ran, Scope, State};
+use tracing::{Entry, Stop};
+
+// A for that is run: its place, its variable, its bounds with the place of its block, and the place after it.
+#[derive(Clone, Copy)]
+struct Passes {
+    place: usize,
+    x: u32,
+    bounds: Bounds,
+    next: usize,
+}
+
+// The steps with one more, for the statement or the for at `place`; a stop where the budget is spent.
+fn next_step(steps: u32, budget: u32, place: usize) -> Result<u32, Stop>
+    ensures { MatchResult result (λ n. (steps < budget) × (n ≡ steps + 1))
+        (λ s. (budget ≤ steps) × (s.reason ≡ Reason.BudgetSpent) × (s.place ≡ place)) }
+{
+    if budget <= steps {
+        return Err(Stop {
+            reason: Reason::BudgetSpent,
+            place,
+        });
+    }
+    Ok(steps + 1)
+}
+
+// (`Ready` stands in the contracts below and in no ghost field of Scope: a ghost field takes a fact that has one proof at most, and `BlockEnds` may have more.)
 
 // The arm that is taken; the other is passed over by the table of ends.
 #[cycle(running)]
+#[tactic(auto, using(crate::proofs::BranchRules::condition_read, crate::proofs::BranchRules::then_read, crate::proofs::BranchRules::else_read, crate::proofs::BranchRules::else_passed, crate::proofs::BranchRules::if_stopped, crate::proofs::BranchRules::else_done, crate::proofs::BranchRules::then_stopped, crate::proofs::BranchRules::then_returned, crate::proofs::BranchRules::then_done))]
 fn run_if(
-    image: &[u32],
-    table: &[u32; SIZE],
-    ends: &[u16],
+    scope: &Scope<'_>,
     vars: &mut [u32; VARIABLES],
-    cells: &mut [u32; CELLS],
-    trace: &mut [u8],
-    scope: Scope,
-    point: Point,
-) -> Ran
-    requires { StatementRead scope.level (params_in table.now) scope.me image.now point.at × Ready image.now table.now ends.now scope.me
-        × (op_of (get_or image.now point.at 0) ≡ 2) }
-    ensures { finished result vars.new cells.new trace.new ≡ statement_at scope.budget (image_in image.now) scope.me
-        point.at point.steps (log point.used trace.old) vars.old cells.old
-        (read_statement scope.level (params_in table.now) scope.me image.now point.at) }
+    state: &mut State<'_, '_, '_>,
+    at: usize,
+    level: u32,
+) -> Result<Ran, Stop>
+    requires { StatementRead level (params_in scope.now.program.table.now) scope.now.me scope.now.program.image.now at
+        × Ready scope.now.program.image.now scope.now.program.table.now scope.now.ends.now scope.now.me
+        × (op_of (get_or scope.now.program.image.now at 0) ≡ 2) }
+    ensures answer { finished result vars.new state.new ≡ statement_run scope.now level at vars.old state.old }
+    ensures same { SameLent state.old state.new }
 {
-    let me = scope.me;
-    let steps = point.steps;
-    let inner = Scope {
-        me,
-        level: scope.level - 1,
-        budget: scope.budget,
+    let ends = scope.ends;
+    let reader = ProcedureReader {
+        image: scope.program.image,
+        table: scope.program.table,
+        me: scope.me,
     };
-    let r = branch(
-        image,
-        table,
+    let memory = Memory {
+        program: scope.program,
         vars,
-        cells,
-        trace,
-        point.at,
-        point.used,
-        inner.level,
-    );
-    let Value::Got(d, n, used) = r else {
-        return stopped(r, steps);
+        cells: state.cells,
     };
-    if d == 0 {
-        let at = block_end(image, table, me, ends, n, inner.level);
-        return run_block(
-            image,
-            table,
-            ends,
-            vars,
-            cells,
-            trace,
-            inner,
-            Point { at, used, steps },
-        );
+    let condition = branch(&memory, state.trace, at, level - 1)?;
+    if condition.word == 0 {
+        let other = reader.block_end(ends, condition.next, level - 1);
+        return run_block(scope, vars, state, other, level - 1);
     }
-    let s = run_block(
-        image,
-        table,
-        ends,
-        vars,
-        cells,
-        trace,
-        inner,
-        Point { at: n, used, steps },
-    );
-    let Ran::On(m, u, z) = s else {
-        return s;
-    };
-    Ran::On(block_end(image, table, me, ends, m, inner.level), u, z)
+    match run_block(scope, vars, state, condition.next, level - 1)? {
+        Ran::Back(value) => Ok(Ran::Back(value)),
+        Ran::On(other) => {
+            let next = reader.block_end(ends, other, level - 1);
+            Ok(Ran::On(next))
+        }
+    }
 }
 
-// The passes of the for at `point`, over variable x: each costs a step, and its variable is set before its block.
+// The passes of a for: each costs a step, and its variable is set before its block.
 #[cycle(running)]
+#[tactic(auto, using(crate::proofs::BlockRules::passes_spent, crate::proofs::BlockRules::passes_stopped, crate::proofs::BlockRules::passes_returned, crate::proofs::BlockRules::passes_more, crate::proofs::BlockRules::passes_done))]
 fn run_passes(
-    image: &[u32],
-    table: &[u32; SIZE],
-    ends: &[u16],
+    scope: &Scope<'_>,
     vars: &mut [u32; VARIABLES],
-    cells: &mut [u32; CELLS],
-    trace: &mut [u8],
-    scope: Scope,
-    point: Point,
-    x: u32,
-    from: u32,
-    to: u32,
-    body: usize,
-    next: usize,
-) -> Ran
-    requires { BlockRead scope.level (params_in table.now) scope.me image.now body × Ready image.now table.now ends.now scope.me }
-    ensures { finished result vars.new cells.new trace.new ≡ passes_at scope.budget (image_in image.now) scope.me
-        point.at x (to - from) from next point.steps (log point.used trace.old) vars.old cells.old
-        (read_block scope.level (params_in table.now) scope.me image.now body) }
+    state: &mut State<'_, '_, '_>,
+    passes: Passes,
+    level: u32,
+) -> Result<Ran, Stop>
+    requires { BlockRead level (params_in scope.now.program.table.now) scope.now.me scope.now.program.image.now passes.bounds.next
+        × Ready scope.now.program.image.now scope.now.program.table.now scope.now.ends.now scope.now.me }
+    ensures answer { finished result vars.new state.new ≡ passes_run scope.now level passes vars.old state.old }
+    ensures same { SameLent state.old state.new }
 {
-    let mut i = from;
-    let mut used = point.used;
-    let mut steps = point.steps;
-    while i < to {
-        if scope.budget <= steps {
-            return Ran::Stop(21, point.at, used, steps);
+    for i in passes.bounds.from..passes.bounds.to {
+        state.steps = next_step(state.steps, scope.budget, passes.place)?;
+        put(vars, wide(passes.x), i);
+        if let Ran::Back(value) = run_block(scope, vars, state, passes.bounds.next, level)? {
+            return Ok(Ran::Back(value));
         }
-        put(vars, wide(x), i);
-        let begun = Point {
-            at: body,
-            used,
-            steps: steps + 1,
-        };
-        let r = run_block(image, table, ends, vars, cells, trace, scope, begun);
-        let Ran::On(_, u, z) = r else {
-            return r;
-        };
-        used = u;
-        steps = z;
-        i += 1;
     }
-    Ran::On(next, used, steps)
+    Ok(Ran::On(passes.next))
 }
 
 // The bounds, then the passes.
 #[cycle(running)]
+#[tactic(auto, using(crate::proofs::BranchRules::bounds_read, crate::proofs::BranchRules::body_read, crate::proofs::BranchRules::for_stopped, crate::proofs::BranchRules::for_done))]
 fn run_for(
-    image: &[u32],
-    table: &[u32; SIZE],
-    ends: &[u16],
+    scope: &Scope<'_>,
     vars: &mut [u32; VARIABLES],
-    cells: &mut [u32; CELLS],
-    trace: &mut [u8],
-    scope: Scope,
-    point: Point,
-) -> Ran
-    requires { StatementRead scope.level (params_in table.now) scope.me image.now point.at × Ready image.now table.now ends.now scope.me
-        × (op_of (get_or image.now point.at 0) ≡ 3) }
-    ensures { finished result vars.new cells.new trace.new ≡ statement_at scope.budget (image_in image.now) scope.me
-        point.at point.steps (log point.used trace.old) vars.old cells.old
-        (read_statement scope.level (params_in table.now) scope.me image.now point.at) }
+    state: &mut State<'_, '_, '_>,
+    at: usize,
+    level: u32,
+) -> Result<Ran, Stop>
+    requires { StatementRead level (params_in scope.now.program.table.now) scope.now.me scope.now.program.image.now at
+        × Ready scope.now.program.image.now scope.now.program.table.now scope.now.ends.now scope.now.me
+        × (op_of (get_or scope.now.program.image.now at 0) ≡ 3) }
+    ensures answer { finished result vars.new state.new ≡ statement_run scope.now level at vars.old state.old }
+    ensures same { SameLent state.old state.new }
 {
-    let at = point.at;
-    let steps = point.steps;
-    let x = target(image[at]);
-    let inner = Scope {
+    let ends = scope.ends;
+    let reader = ProcedureReader {
+        image: scope.program.image,
+        table: scope.program.table,
         me: scope.me,
-        level: scope.level - 1,
-        budget: scope.budget,
     };
-    match range(
-        image,
-        table,
+    let memory = Memory {
+        program: scope.program,
         vars,
-        cells,
-        trace,
-        at,
-        point.used,
-        inner.level,
-    ) {
-        Bounds::None(number, place, used) => Ran::Stop(number, place, used, steps),
-        Bounds::Both(from, to, body, used) => {
-            let next = block_end(image, table, inner.me, ends, body, inner.level);
-            run_passes(
-                image,
-                table,
-                ends,
-                vars,
-                cells,
-                trace,
-                inner,
-                Point { at, used, steps },
-                x,
-                from,
-                to,
-                body,
-                next,
-            )
-        }
-    }
+        cells: state.cells,
+    };
+    let bounds = range(&memory, state.trace, at, level - 1)?;
+    let passes = Passes {
+        place: at,
+        x: target(scope.program.image[at]),
+        bounds,
+        next: reader.block_end(ends, bounds.next, level - 1),
+    };
+    run_passes(scope, vars, state, passes, level - 1)
 }
 
 // The variables of a procedure that begins: its values, then zeros.
@@ -197,198 +151,112 @@ fn frame_of(values: &[u32; PARAMETERS]) -> [u32; VARIABLES]
     ensures { result ≡ framed values.now }
 {
     let mut frame = [0u32; VARIABLES];
-    frame[0] = values[0];
-    frame[1] = values[1];
-    frame[2] = values[2];
-    frame[3] = values[3];
-    frame[4] = values[4];
-    frame[5] = values[5];
-    frame[6] = values[6];
-    frame[7] = values[7];
-    frame[8] = values[8];
+    frame[..PARAMETERS].copy_from_slice(values);
     frame
 }
 
-// The body of procedure f. Its variables stand in this function's own frame, and not in that of each open block.
+// The body of the procedure. Its variables stand in this function's own frame, and not in that of each open block.
 #[cycle(running)]
+#[tactic(auto, using(crate::proofs::CallRules::start_read, crate::proofs::CallRules::body_stopped, crate::proofs::CallRules::body_returned, crate::proofs::CallRules::body_fell))]
 pub fn run_body(
-    image: &[u32],
-    table: &[u32; SIZE],
-    ends: &[u16],
+    scope: &Scope<'_>,
     values: &[u32; PARAMETERS],
-    cells: &mut [u32; CELLS],
-    trace: &mut [u8],
-    f: u32,
-    budget: u32,
-    used: usize,
-    steps: u32,
-) -> Finished
-    requires { Ready image.now table.now ends.now f }
-    ensures { returned result cells.new trace.new ≡ procedure_run budget (image_in image.now) f steps
-        (log used trace.old) values.now cells.old }
+    state: &mut State<'_, '_, '_>,
+) -> Result<u32, Stop>
+    requires { Ready scope.now.program.image.now scope.now.program.table.now scope.now.ends.now scope.now.me }
+    ensures answer { returned result state.new ≡ body_run scope.now values.now state.old }
+    ensures same { SameLent state.old state.new }
 {
     let mut frame = frame_of(values);
-    let scope = Scope {
-        me: f,
-        level: largest_level(form(image[0])),
-        budget,
-    };
-    let begun = Point {
-        at: tables::body(table, f),
-        used,
-        steps,
-    };
-    match run_block(image, table, ends, &mut frame, cells, trace, scope, begun) {
-        Ran::Stop(number, place, u, z) => Finished::Halt(number, place, u, z),
-        Ran::Back(v, u, z) => Finished::Gave(v, u, z),
-        Ran::On(_, u, z) => Finished::Gave(0, u, z),
+    let level = largest_level(scope.program.form());
+    let at = tables::body(scope.program.table, scope.me);
+    match run_block(scope, &mut frame, state, at, level)? {
+        Ran::Back(value) => Ok(value),
+        Ran::On(_) => Ok(0),
     }
 }
 
 // The values, the entry, the procedure called; its result goes to the variable.
 #[cycle(running)]
+#[tactic(auto, using(crate::proofs::CallRules::arguments_read, crate::proofs::CallRules::callee_ready, crate::proofs::CallRules::call_stopped, crate::proofs::CallRules::call_full, crate::proofs::CallRules::callee_stopped, crate::proofs::CallRules::callee_gave))]
 fn run_call(
-    image: &[u32],
-    table: &[u32; SIZE],
-    ends: &[u16],
+    scope: &Scope<'_>,
     vars: &mut [u32; VARIABLES],
-    cells: &mut [u32; CELLS],
-    trace: &mut [u8],
-    scope: Scope,
-    point: Point,
-) -> Ran
-    requires { StatementRead scope.level (params_in table.now) scope.me image.now point.at × Ready image.now table.now ends.now scope.me
-        × (op_of (get_or image.now point.at 0) ≡ 5) }
-    ensures { finished result vars.new cells.new trace.new ≡ statement_at scope.budget (image_in image.now) scope.me
-        point.at point.steps (log point.used trace.old) vars.old cells.old
-        (read_statement scope.level (params_in table.now) scope.me image.now point.at) }
+    state: &mut State<'_, '_, '_>,
+    at: usize,
+    level: u32,
+) -> Result<Ran, Stop>
+    requires { StatementRead level (params_in scope.now.program.table.now) scope.now.me scope.now.program.image.now at
+        × Ready scope.now.program.image.now scope.now.program.table.now scope.now.ends.now scope.now.me
+        × (op_of (get_or scope.now.program.image.now at 0) ≡ 5) }
+    ensures answer { finished result vars.new state.new ≡ statement_run scope.now level at vars.old state.old }
+    ensures same { SameLent state.old state.new }
 {
-    let at = point.at;
-    let w = image[at];
+    let w = scope.program.image[at];
     let f = called(w);
-    let count = tables::parameters(table, f);
-    let mut values = [0u32; PARAMETERS];
-    let r = arguments(
-        image,
-        table,
+    let count = scope.program.parameters(f);
+    let memory = Memory {
+        program: scope.program,
         vars,
-        cells,
-        trace,
-        &mut values,
-        count,
-        at + 1,
-        point.used,
-        scope.level - 1,
-    );
-    let Value::Got(_, n, u) = r else {
-        return stopped(r, point.steps);
+        cells: state.cells,
     };
-    let s = tracing::note(trace, u, tracing::CALLED, at, f, n);
-    let Value::Got(_, m, u2) = s else {
-        return stopped(s, point.steps);
-    };
-    match run_body(
-        image,
-        table,
-        ends,
-        &values,
-        cells,
-        trace,
-        f,
-        scope.budget,
-        u2,
-        point.steps,
-    ) {
-        Finished::Halt(number, place, u3, z) => Ran::Stop(number, place, u3, z),
-        Finished::Gave(v, u3, z) => {
-            put(vars, wide(result(w)), v);
-            Ran::On(m, u3, z)
-        }
-    }
+    let mut values = [0u32; PARAMETERS];
+    let next = arguments(&memory, state.trace, &mut values, count, at + 1, level - 1)?;
+    state.trace.record(Entry::Called, at, f)?;
+    let callee = Scope { me: f, ..*scope };
+    let value = run_body(&callee, &values, state)?;
+    put(vars, wide(result(w)), value);
+    Ok(Ran::On(next))
 }
 
 // A statement whose step is taken.
 #[cycle(running)]
+#[tactic(auto, using(image_words::specs::StatementParts::op_there))]
 fn run_statement(
-    image: &[u32],
-    table: &[u32; SIZE],
-    ends: &[u16],
+    scope: &Scope<'_>,
     vars: &mut [u32; VARIABLES],
-    cells: &mut [u32; CELLS],
-    trace: &mut [u8],
-    scope: Scope,
-    point: Point,
-) -> Ran
-    requires { StatementRead scope.level (params_in table.now) scope.me image.now point.at × Ready image.now table.now ends.now scope.me }
-    ensures { finished result vars.new cells.new trace.new ≡ statement_at scope.budget (image_in image.now) scope.me
-        point.at point.steps (log point.used trace.old) vars.old cells.old
-        (read_statement scope.level (params_in table.now) scope.me image.now point.at) }
+    state: &mut State<'_, '_, '_>,
+    at: usize,
+    level: u32,
+) -> Result<Ran, Stop>
+    requires { StatementRead level (params_in scope.now.program.table.now) scope.now.me scope.now.program.image.now at
+        × Ready scope.now.program.image.now scope.now.program.table.now scope.now.ends.now scope.now.me }
+    ensures answer { finished result vars.new state.new ≡ statement_run scope.now level at vars.old state.old }
+    ensures same { SameLent state.old state.new }
 {
-    let at = point.at;
-    let o = op(image[at]);
-    if o == ops::ASSIGN {
-        return run_assign(image, table, vars, cells, trace, scope, point);
+    match ops::of(scope.program.image[at]) {
+        Op::Assign => run_assign(scope, vars, state, at, level),
+        Op::If => run_if(scope, vars, state, at, level),
+        Op::For => run_for(scope, vars, state, at, level),
+        Op::Store => run_store(scope, vars, state, at, level),
+        Op::Return => run_return(scope, vars, state, at, level),
+        Op::Call => run_call(scope, vars, state, at, level),
     }
-    if o == ops::IF {
-        return run_if(image, table, ends, vars, cells, trace, scope, point);
-    }
-    if o == ops::FOR {
-        return run_for(image, table, ends, vars, cells, trace, scope, point);
-    }
-    if o == ops::STORE {
-        return run_store(image, table, vars, cells, trace, scope, point);
-    }
-    if o == ops::RETURN {
-        return run_return(image, table, vars, cells, trace, scope, point);
-    }
-    run_call(image, table, ends, vars, cells, trace, scope, point)
 }
 
 // The block at a place: each statement begun costs a step.
 #[cycle(running)]
+#[tactic(auto, using(crate::proofs::BlockRules::block_begin_ok, crate::proofs::BlockRules::block_begin, crate::proofs::BlockRules::statement_read, crate::proofs::BlockRules::block_done, crate::proofs::BlockRules::block_ok, crate::proofs::BlockRules::block_spent, crate::proofs::BlockRules::block_stopped, crate::proofs::BlockRules::block_returned, crate::proofs::BlockRules::block_more))]
 fn run_block(
-    image: &[u32],
-    table: &[u32; SIZE],
-    ends: &[u16],
+    scope: &Scope<'_>,
     vars: &mut [u32; VARIABLES],
-    cells: &mut [u32; CELLS],
-    trace: &mut [u8],
-    scope: Scope,
-    point: Point,
-) -> Ran
-    requires { BlockRead scope.level (params_in table.now) scope.me image.now point.at × Ready image.now table.now ends.now scope.me }
-    ensures { finished result vars.new cells.new trace.new ≡ block_at scope.budget (image_in image.now) scope.me
-        point.steps (log point.used trace.old) vars.old cells.old
-        (read_block scope.level (params_in table.now) scope.me image.now point.at) }
+    state: &mut State<'_, '_, '_>,
+    at: usize,
+    level: u32,
+) -> Result<Ran, Stop>
+    requires { BlockRead level (params_in scope.now.program.table.now) scope.now.me scope.now.program.image.now at
+        × Ready scope.now.program.image.now scope.now.program.table.now scope.now.ends.now scope.now.me }
+    ensures answer { finished result vars.new state.new ≡ block_run scope.now level at vars.old state.old }
+    ensures same { SameLent state.old state.new }
 {
-    let start = point.at;
-    let count = payload(image[start]);
-    let inner = Scope {
-        me: scope.me,
-        level: scope.level - 1,
-        budget: scope.budget,
-    };
-    let mut k = 0;
-    let mut at = start + 1;
-    let mut used = point.used;
-    let mut steps = point.steps;
-    while k < count {
-        if scope.budget <= steps {
-            return Ran::Stop(21, at, used, steps);
+    let count = payload(scope.program.image[at]);
+    let mut next = at + 1;
+    for k in 0..count {
+        state.steps = next_step(state.steps, scope.budget, next)?;
+        match run_statement(scope, vars, state, next, level - 1)? {
+            Ran::On(place) => next = place,
+            Ran::Back(value) => return Ok(Ran::Back(value)),
         }
-        let begun = Point {
-            at,
-            used,
-            steps: steps + 1,
-        };
-        let r = run_statement(image, table, ends, vars, cells, trace, inner, begun);
-        let Ran::On(n, u, z) = r else {
-            return r;
-        };
-        at = n;
-        used = u;
-        steps = z;
-        k += 1;
     }
-    Ran::On(at, used, steps)
+    Ok(Ran::On(next))
 }

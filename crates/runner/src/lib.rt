@@ -4,12 +4,3 @@
 
 mod blocks; // blocks, and the statements that run them
 pub mod procedures; // a whole procedure, as a host's call runs it
-
-// What a run of a procedure comes to.
-#[derive(Clone, Copy)]
-pub enum Finished {
-    // its result, the trace bytes used, the steps
-    Gave(u32, usize, u32),
-    // a stop: document 01's number and place, the trace bytes used, the steps
-    Halt(u32, usize, usize, u32),
-}

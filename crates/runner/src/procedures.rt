@@ -5,44 +5,46 @@ ghost use Rattle.laws.specs.ImageIn.{image_in};
 ghost use Rattle.runner.specs.Runs.{Ready, nine};
 ghost use Rattle.runner.specs.Executions.{told, executed};
 
-use super::Finished;
 use super::blocks::run_body;
 use evaluator::CELLS;
-use simple_statements::PARAMETERS;
-use tables::SIZE;
+use simple_statements::{PARAMETERS, Scope, State};
+use tracing::{Stop, Trace};
 
-// What a call's run comes to.
+// What a call's run comes to: the result or the stop, the steps, the number of trace words recorded.
 #[derive(Clone, Copy)]
-pub enum Execution {
-    // the result, the steps, the number of trace words recorded
-    Done(u32, u32, usize),
-    // a stop: document 01's number and place, the steps, the number of trace words recorded
-    Stopped(u32, usize, u32, usize),
+pub struct Execution {
+    pub outcome: Result<u32, Stop>,
+    pub steps: u32,
+    pub words: usize,
 }
 
-// Procedure f on its values. On a stop the cells are as the run left them: a host's call puts them back.
+// The procedure on its values. On a stop the cells are as the run left them: a host's call puts them back.
 pub fn run_procedure(
-    image: &[u32],
-    table: &[u32; SIZE],
-    ends: &[u16],
+    scope: &Scope<'_>,
     values: &[u32; PARAMETERS],
     cells: &mut [u32; CELLS],
     trace: &mut [u8],
-    f: u32,
-    budget: u32,
 ) -> Execution
-    requires { Ready image.now table.now ends.now f }
+    requires { Ready scope.now.program.image.now scope.now.program.table.now scope.now.ends.now scope.now.me }
     ensures { told result cells.new trace.new ≡ executed trace.old (run_procedure (trace_words (length trace.old / 4))
-        budget (image_in image.now).arrays (image_in image.now).procedures (length (image_in image.now).procedures)
-        f (nine values.now) 0 [] cells.old) }
+        scope.now.budget (image_in scope.now.program.image.now).arrays (image_in scope.now.program.image.now).procedures
+        (length (image_in scope.now.program.image.now).procedures) scope.now.me (nine values.now) 0 [] cells.old) }
 {
-    match run_body(image, table, ends, values, cells, trace, f, budget, 0, 0) {
-        Finished::Halt(number, place, used, steps) => Execution::Stopped(
-            number,
-            place,
-            steps,
-            used / 4,
-        ),
-        Finished::Gave(v, used, steps) => Execution::Done(v, steps, used / 4),
+    let mut written = Trace {
+        bytes: trace,
+        used: 0,
+    };
+    let mut state = State {
+        cells,
+        trace: &mut written,
+        steps: 0,
+    };
+    let outcome = run_body(scope, values, &mut state);
+    let State { steps, .. } = state;
+    let Trace { used, .. } = written;
+    Execution {
+        outcome,
+        steps,
+        words: used / 4,
     }
 }

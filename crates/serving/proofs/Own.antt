@@ -16,8 +16,8 @@ use Rattle.tables.specs.Looking.{known_arrays, few_cells}
 use Rattle.requests.specs.Cells.{Fits, known_fits}
 use Rattle.laws.specs.Ready.{ready_read, serve_read}
 use Rattle.checker.specs.Left.{known_filled, read_tree}
-use Rattle.ready.specs.declared.Ready.{Ready}
-use Rattle.ready.specs.declared.Ready.TheVariants.{Cells}
+use Rattle.std.proofs.Common.{Result, Ok}
+use Rattle.definitions.specs.declared.Fault.{Fault}
 use Rattle.ready.specs.Prepared.{readied, readied_cells, table_left}
 
 -- `x` is the definition's answer for the number of lent cells, `own` the number of the image's own
@@ -58,7 +58,7 @@ module _ (image cells table : List ℕ) (x : ℕ → Readiness) (own : ℕ) wher
   unfolding table_left
   with_table tree n read t = known_filled (whole_words image) (words_of image) tree n read table (rw read at t)
 
-module _ (image cells table : List ℕ) (r : Ready) (own : ℕ) (f : r ≡ Cells own) where
+module _ (image cells table : List ℕ) (r : Result ℕ Fault) (own : ℕ) (f : r ≡ Ok own) where
   pub load_own : r ≡ readied (ready_to_load (whole_words image) (words_of image) (length cells / 4))
       → table ≡ table_left (read_image (whole_words image) (words_of image)) → Own image cells table (ready_to_load (whole_words image) (words_of image)) own
   load_own e t =

@@ -23,12 +23,12 @@ use Rattle.requests.specs.OwnCells.{clear_on, poke_on, peek_on}
 use Rattle.requests.specs.ByteRequests.{afterwards, after_call, load_refused, clear_refused, poke_refused, peek_refused, call_refused}
 use Rattle.requests.specs.ByteRequests.{load_ready, clear_ready, poke_ready, peek_ready, call_ready}
 use Rattle.checker.specs.Left.{ends_left}
-use Rattle.machine.specs.declared.Machine.{Machine}
-use Rattle.machine.specs.declared.Turn.{Turn}
+use Rattle.machine.specs.declared.machines.Machine.{Machine}
+use Rattle.machine.specs.declared.machines.Turn.{Turn}
 use Rattle.machine.specs.Turns.{held, Kept, given_back, Turned}
 use Rattle.machine.specs.Serving.{Serves, TurnedCall, TurnedPreview}
-use Rattle.ready.specs.declared.Ready.{Ready}
-use Rattle.ready.specs.declared.Ready.TheVariants.{Cells, Unready}
+use Rattle.std.proofs.Common.{Result, Ok, Err}
+use Rattle.definitions.specs.declared.Fault.{Fault}
 use Rattle.ready.specs.Prepared.{readied, readied_not, Prepared}
 use Rattle.ready.proofs.Rules.{left_table}
 use Rattle.serving.proofs.Own.{Own, serve_own}
@@ -41,39 +41,39 @@ previewed image cells f arguments budget trace bytes r after trace' e =
 
 -- ---- a request that is refused
 
-module _ (image cells : List ℕ) (bytes : Bytes cells) (r : Ready) (k p : ℕ) (f : r ≡ Unready k p) where
-  pub load_not : r ≡ readied (ready_to_load (whole_words image) (words_of image) (length cells / 4)) → (Refused k p, cells) ≡ load_bytes image cells
+module _ (image cells : List ℕ) (bytes : Bytes cells) (r : Result ℕ Fault) (f : Fault) (g : r ≡ Err f) where
+  pub load_not : r ≡ readied (ready_to_load (whole_words image) (words_of image) (length cells / 4)) → (Refused f.number f.place, cells) ≡ load_bytes image cells
   load_not e =
-      sym (load_refused cells bytes image k p
+      sym (load_refused cells bytes image f.number f.place
       (ap (ready_to_load (whole_words image) (words_of image)) (length_words_of cells)
-      ∙ readied_not (ready_to_load (whole_words image) (words_of image) (length cells / 4)) r k p e f))
+      ∙ readied_not (ready_to_load (whole_words image) (words_of image) (length cells / 4)) r f e g))
 
   module _ (e : r ≡ readied (ready_to_serve (whole_words image) (words_of image) (length cells / 4))) where
-    not_ready : ready_to_serve (whole_words image) (words_of image) (length (words_of cells)) ≡ unready k p
+    not_ready : ready_to_serve (whole_words image) (words_of image) (length (words_of cells)) ≡ unready f.number f.place
     not_ready =
         ap (ready_to_serve (whole_words image) (words_of image)) (length_words_of cells)
-        ∙ readied_not (ready_to_serve (whole_words image) (words_of image) (length cells / 4)) r k p e f
+        ∙ readied_not (ready_to_serve (whole_words image) (words_of image) (length cells / 4)) r f e g
 
-    pub clear_not : (Refused k p, cells) ≡ clear_bytes image cells
-    clear_not = sym (clear_refused cells bytes image k p not_ready)
+    pub clear_not : (Refused f.number f.place, cells) ≡ clear_bytes image cells
+    clear_not = sym (clear_refused cells bytes image f.number f.place not_ready)
 
-    pub poke_not : (a i v : ℕ) → (Refused k p, cells) ≡ poke_bytes image cells a i v
-    poke_not a i v = sym (poke_refused cells bytes image k p not_ready a i v)
+    pub poke_not : (a i v : ℕ) → (Refused f.number f.place, cells) ≡ poke_bytes image cells a i v
+    poke_not a i v = sym (poke_refused cells bytes image f.number f.place not_ready a i v)
 
-    pub peek_not : (a i : ℕ) → (Refused k p, cells) ≡ peek_bytes image cells a i
-    peek_not a i = sym (peek_refused cells bytes image k p not_ready a i)
+    pub peek_not : (a i : ℕ) → (Refused f.number f.place, cells) ≡ peek_bytes image cells a i
+    peek_not a i = sym (peek_refused cells bytes image f.number f.place not_ready a i)
 
-    pub bound_not : (g : ℕ) → (Refused k p, cells) ≡ bound_bytes image cells g
+    pub bound_not : (n : ℕ) → (Refused f.number f.place, cells) ≡ bound_bytes image cells n
     unfolding bound_bytes bound served
-    bound_not g = rw (not_ready, lent_words_of cells bytes)
+    bound_not n = rw (not_ready, lent_words_of cells bytes)
 
-    pub call_not : (g : ℕ) (arguments : List ℕ) (budget : ℕ) (trace : List ℕ) → (Refused k p, cells, trace) ≡ call_bytes image cells g arguments budget trace
-    call_not g arguments budget trace = sym (call_refused cells bytes image k p not_ready g arguments budget trace)
+    pub call_not : (n : ℕ) (arguments : List ℕ) (budget : ℕ) (trace : List ℕ) → (Refused f.number f.place, cells, trace) ≡ call_bytes image cells n arguments budget trace
+    call_not n arguments budget trace = sym (call_refused cells bytes image f.number f.place not_ready n arguments budget trace)
 
-    pub preview_not : (g : ℕ) (arguments : List ℕ) (budget : ℕ) (trace : List ℕ)
-        → (Refused k p, cells, trace) ≡ preview_bytes image cells g arguments budget trace
-    preview_not g arguments budget trace =
-        previewed image cells g arguments budget trace bytes (Refused k p) cells trace (call_not g arguments budget trace)
+    pub preview_not : (n : ℕ) (arguments : List ℕ) (budget : ℕ) (trace : List ℕ)
+        → (Refused f.number f.place, cells, trace) ≡ preview_bytes image cells n arguments budget trace
+    preview_not n arguments budget trace =
+        previewed image cells n arguments budget trace bytes (Refused f.number f.place) cells trace (call_not n arguments budget trace)
 
 -- ---- the machine's turn, whose cells go back
 
@@ -85,26 +85,25 @@ front_back cells own bytes h =
     ∙ ap (λ (x : List ℕ). lent cells x) (take-append-drop own (words_of cells))
     ∙ lent_words_of cells bytes
 
-kept_count : (a : Answer) (m after : Machine) → Kept a m after → after.count ≡ m.count
+kept_count : {N : ℕ} (a : Answer) (m after : Machine N) → Kept a m after → after.count ≡ m.count
 unfolding Kept
 kept_count (Done v z n) m after k = k
-kept_count (Stopped i p z n) m after k = ap (λ (x : Machine). x.count) k
-kept_count (Refused i p) m after k = ap (λ (x : Machine). x.count) k
+kept_count (Stopped i p z n) m after k = ap (λ (x : Machine _). x.count) k
+kept_count (Refused i p) m after k = ap (λ (x : Machine _). x.count) k
 
-pub back_asks : (size own most : ℕ) (m : Machine) (t : Turn) → m.count ≡ own → Kept t.answer m t.machine → own ≤ most → 4 * own ≤ size
-    → (t.machine.count ≤ most) × (4 * t.machine.count ≤ size)
-back_asks size own most m t c kept few enough = let n : t.machine.count ≡ own = kept_count t.answer m t.machine kept ∙ c in rw n (few, enough)
+pub back_asks : {N : ℕ} (size own : ℕ) (m : Machine N) (t : Turn N) → m.count ≡ own → Kept t.answer m t.machine → 4 * own ≤ size → 4 * t.machine.count ≤ size
+back_asks size own m t c kept enough = let n : t.machine.count ≡ own = kept_count t.answer m t.machine kept ∙ c in rw n enough
 
-module _ (cells : List ℕ) (bytes : Bytes cells) (own : ℕ) (enough : 4 * own ≤ length cells) (m : Machine) (h : held m ≡ take own (words_of cells))
+module _ {N : ℕ} (cells : List ℕ) (bytes : Bytes cells) (own : ℕ) (enough : 4 * own ≤ length cells) (m : Machine N) (h : held m ≡ take own (words_of cells))
     (c : m.count ≡ own) where
   -- what is not written stands there already
-  back : (a : Answer) (after : Machine) → Kept a m after → given_back a after cells ≡ bytes_of (held after) ++ drop (4 * after.count) cells
+  back : (a : Answer) (after : Machine N) → Kept a m after → given_back a after cells ≡ bytes_of (held after) ++ drop (4 * after.count) cells
   unfolding Kept
   back (Done v z n) after k = refl
   back (Stopped i p z n) after k = rw (k, h, c) (sym (front_back cells own bytes enough))
   back (Refused i p) after k = rw (k, h, c) (sym (front_back cells own bytes enough))
 
-  module _ (t : Turn) (kept : Kept t.answer m t.machine) (after : List ℕ) (e : after ≡ given_back t.answer t.machine cells) where
+  module _ (t : Turn N) (kept : Kept t.answer m t.machine) (after : List ℕ) (e : after ≡ given_back t.answer t.machine cells) where
     own_back : after ≡ bytes_of (held t.machine) ++ drop (4 * own) cells
     own_back =
         e ∙ back t.answer t.machine kept
@@ -117,8 +116,8 @@ module _ (cells : List ℕ) (bytes : Bytes cells) (own : ℕ) (enough : 4 * own 
         let g : held t.machine ≡ s.1 = ap (λ (x : Served). x.1) gives in
         rw (own_back, d, g)
 
-module _ (image cells table : List ℕ) (bytes : Bytes cells) (own : ℕ) (m : Machine) (h : held m ≡ take own (words_of cells)) (c : m.count ≡ own)
-    (t : Turn) (r : Answer) (after : List ℕ) (a : r ≡ t.answer) (e : after ≡ given_back t.answer t.machine cells) where
+module _ {N : ℕ} (image cells table : List ℕ) (bytes : Bytes cells) (own : ℕ) (m : Machine N) (h : held m ≡ take own (words_of cells)) (c : m.count ≡ own)
+    (t : Turn N) (r : Answer) (after : List ℕ) (a : r ≡ t.answer) (e : after ≡ given_back t.answer t.machine cells) where
   cleared : 4 * own ≤ length cells → Turned m t (clear_on m.count) → (r, after) ≡ afterwards cells own (clear_on own)
   cleared enough turned =
       given_back_lem cells bytes own enough m h c t turned.kept after e (clear_on m.count) turned.gives r a
@@ -138,7 +137,7 @@ module _ (image cells table : List ℕ) (bytes : Bytes cells) (own : ℕ) (m : M
         (sym (poke_ready cells bytes image o.tree own o.all o.enough o.is_ready b i v)))
 
 -- nothing is written: the cells stand where they stood
-module _ (image cells table : List ℕ) (bytes : Bytes cells) (own : ℕ) (m : Machine) (h : held m ≡ take own (words_of cells))
+module _ {N : ℕ} (image cells table : List ℕ) (bytes : Bytes cells) (own : ℕ) (m : Machine N) (h : held m ≡ take own (words_of cells))
     (o : Own image cells table (ready_to_serve (whole_words image) (words_of image)) own) (a i : ℕ) where
   peeked : (peek_on o.tree.arrays (take own (words_of cells)) a i).1 ≡ take own (words_of cells)
   unfolding peek_on
@@ -150,7 +149,7 @@ module _ (image cells table : List ℕ) (bytes : Bytes cells) (own : ℕ) (m : M
       go true = refl
       go false = refl
 
-  pub peek_done : (t : Turn) → Turned m t (peek_on (arrays_in table) (held m) a i) → (t.answer, cells) ≡ peek_bytes image cells a i
+  pub peek_done : (t : Turn N) → Turned m t (peek_on (arrays_in table) (held m) a i) → (t.answer, cells) ≡ peek_bytes image cells a i
   peek_done t turned =
       let d : t.answer ≡ (peek_on o.tree.arrays (take own (words_of cells)) a i).0 =
       ap (λ (x : Served). x.0) turned.gives ∙ (let s = o.arrays in rw (h, s)) in
@@ -158,7 +157,7 @@ module _ (image cells table : List ℕ) (bytes : Bytes cells) (own : ℕ) (m : M
 
 -- ---- a call and a preview
 
-pub called_back : (words cells after before trace : List ℕ) (own : ℕ) (m : Machine) (t : Turn) (f : ℕ) (arguments : List ℕ) (budget : ℕ) (r : Answer)
+pub called_back : {N : ℕ} (words cells after before trace : List ℕ) (own : ℕ) (m : Machine N) (t : Turn N) (f : ℕ) (arguments : List ℕ) (budget : ℕ) (r : Answer)
     → Bytes cells → 4 * own ≤ length cells → held m ≡ take own (words_of cells) → m.count ≡ own
     → TurnedCall m t before trace (called_on (image_in words) (held m) f (words_of arguments) budget (length (words_of before)))
     → r ≡ t.answer → after ≡ given_back t.answer t.machine cells
@@ -166,8 +165,8 @@ pub called_back : (words cells after before trace : List ℕ) (own : ℕ) (m : M
 called_back words cells after before trace own m t f arguments budget r bytes enough h c turned a e =
     rw (own_back cells bytes own enough m h c t turned.kept after e, a ∙ turned.answer, turned.cells, turned.trace, h)
 
-module _ (image cells words words' table ends : List ℕ) (bytes : Bytes cells) (r : Ready)
-    (q : Prepared r (ready_to_serve (whole_words image) (words_of image) (length cells / 4)) image words words' table ends) (own : ℕ) (f : r ≡ Cells own) where
+module _ (image cells words words' table ends : List ℕ) (bytes : Bytes cells) (r : Result ℕ Fault)
+    (q : Prepared r (ready_to_serve (whole_words image) (words_of image) (length cells / 4)) image words words' table ends) (own : ℕ) (f : r ≡ Ok own) where
   pub call_own : Own image cells table (ready_to_serve (whole_words image) (words_of image)) own
   call_own =
       serve_own image cells table r own f q.answer
@@ -215,7 +214,7 @@ module _ (image cells words words' table ends : List ℕ) (bytes : Bytes cells) 
       (called_on (image_in (take (length image / 4) words')) (take own (words_of cells)) g (words_of arguments) budget (length (words_of before)))
       (ap (λ (i : Image). called_on i (take own (words_of cells)) g (words_of arguments) budget (length (words_of before))) same))
 
-  pub preview_done : (m : Machine) → held m ≡ take own (words_of cells) → (t : Turn) (before trace : List ℕ) (g : ℕ) (arguments : List ℕ) (budget : ℕ)
+  pub preview_done : {N : ℕ} (m : Machine N) → held m ≡ take own (words_of cells) → (t : Turn N) (before trace : List ℕ) (g : ℕ) (arguments : List ℕ) (budget : ℕ)
       → TurnedPreview m t before trace (called_on (image_in (take (length image / 4) words')) (held m) g (words_of arguments) budget (length (words_of before)))
       → (t.answer, cells, trace) ≡ preview_bytes image cells g arguments budget before
   preview_done m h t before trace g arguments budget turned =

@@ -3,9 +3,10 @@ ghost use Rattle.std.specs.Prelude.{◌≡◌, ◌/◌, ◌≤◌, min, length};
 ghost use Rattle.definitions.specs.Host.{bound_bytes};
 
 use definitions::Answer;
-use ready::{Ready, prepare_to_serve};
+use ready::prepare_to_serve;
 use tables::SIZE;
-use words::images::{ENOUGH, SHORT};
+use tables::programs::Program;
+use words::images::{ENOUGH, LONGEST, SHORT};
 
 // A working array is lent for the image's words. Where blocks end plays no part, so there is no array for that.
 fn bound_with(image: &[u8], cells: &[u8], f: u32, words: &mut [u32]) -> Answer
@@ -15,30 +16,32 @@ fn bound_with(image: &[u8], cells: &[u8], f: u32, words: &mut [u32]) -> Answer
     let mut table = [0u32; SIZE];
     let mut ends = [0u16; 0];
     match prepare_to_serve(image, cells.len() / 4, words, &mut table, &mut ends) {
-        Ready::Unready(number, place) => Answer::Refused(number, place),
-        Ready::Cells(own) => {
-            let n = image.len() / 4;
-            step_bounds::bound(&words[..n], &table, f)
+        Err(fault) => Answer::Refused(fault.number, fault.place),
+        Ok(_) => {
+            let program = Program {
+                image: &words[..image.len() / 4],
+                table: &table,
+            };
+            step_bounds::bound(program, f)
         }
     }
 }
 
-// A short image.
-fn bound_short(image: &[u8], cells: &[u8], f: u32) -> Answer
-    requires { length image.now ≤ 2048 }
+// An image of at most N words.
+fn bound_sized<const N: usize>(image: &[u8], cells: &[u8], f: u32) -> Answer
+    requires { (min (length image.now / 4) 16384 ≤ N) × (N ≤ 16384) }
     ensures { (result, cells.now) ≡ bound_bytes image.now cells.now f }
 {
-    let mut words = [0u32; 512];
+    let mut words = [0u32; N];
     bound_with(image, cells, f, &mut words)
 }
 
-// An image of any length. Its arrays stand in a frame of their own, which a short image does not need.
+// An image of any length. Its words stand in a frame of their own, which a short image does not need.
 #[inline(never)]
 fn bound_long(image: &[u8], cells: &[u8], f: u32) -> Answer
     ensures { (result, cells.now) ≡ bound_bytes image.now cells.now f }
 {
-    let mut words = [0u32; 16384];
-    bound_with(image, cells, f, &mut words)
+    bound_sized::<LONGEST>(image, cells, f)
 }
 
 // The most steps that a call of procedure f can take. A longer image is cut by a call of itself, as in a call.
@@ -48,8 +51,8 @@ pub fn bound(image: &[u8], cells: &[u8], f: u32) -> Answer
     if ENOUGH < image.len() {
         return bound(&image[..ENOUGH], cells, f);
     }
-    if image.len() <= SHORT {
-        return bound_short(image, cells, f);
+    if image.len() <= 4 * SHORT {
+        return bound_sized::<SHORT>(image, cells, f);
     }
     bound_long(image, cells, f)
 }

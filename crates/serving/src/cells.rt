@@ -3,8 +3,8 @@ ghost use Rattle.std.specs.Prelude.{◌≡◌};
 ghost use Rattle.definitions.specs.Host.{load_bytes, clear_bytes, poke_bytes, peek_bytes};
 
 use definitions::Answer;
-use machine::Machine;
-use ready::{Ready, ready_to_load, ready_to_serve};
+use machine::{CELLS, Machine};
+use ready::{ready_to_load, ready_to_serve};
 use tables::SIZE;
 
 // "Load sets cells to 0".
@@ -13,8 +13,8 @@ pub fn load(image: &[u8], cells: &mut [u8]) -> Answer
 {
     let mut table = [0u32; SIZE];
     match ready_to_load(image, cells.len() / 4, &mut table) {
-        Ready::Unready(number, place) => Answer::Refused(number, place),
-        Ready::Cells(own) => Machine::lent(cells, own).load().give_back(cells),
+        Err(fault) => Answer::Refused(fault.number, fault.place),
+        Ok(own) => Machine::<CELLS>::lent(cells, own).load().give_back(cells),
     }
 }
 
@@ -24,8 +24,8 @@ pub fn clear(image: &[u8], cells: &mut [u8]) -> Answer
 {
     let mut table = [0u32; SIZE];
     match ready_to_serve(image, cells.len() / 4, &mut table) {
-        Ready::Unready(number, place) => Answer::Refused(number, place),
-        Ready::Cells(own) => Machine::lent(cells, own).clear().give_back(cells),
+        Err(fault) => Answer::Refused(fault.number, fault.place),
+        Ok(own) => Machine::<CELLS>::lent(cells, own).clear().give_back(cells),
     }
 }
 
@@ -35,8 +35,8 @@ pub fn poke(image: &[u8], cells: &mut [u8], a: u32, i: u32, v: u32) -> Answer
 {
     let mut table = [0u32; SIZE];
     match ready_to_serve(image, cells.len() / 4, &mut table) {
-        Ready::Unready(number, place) => Answer::Refused(number, place),
-        Ready::Cells(own) => Machine::lent(cells, own)
+        Err(fault) => Answer::Refused(fault.number, fault.place),
+        Ok(own) => Machine::<CELLS>::lent(cells, own)
             .poke(&table, a, i, v)
             .give_back(cells),
     }
@@ -48,7 +48,7 @@ pub fn peek(image: &[u8], cells: &[u8], a: u32, i: u32) -> Answer
 {
     let mut table = [0u32; SIZE];
     match ready_to_serve(image, cells.len() / 4, &mut table) {
-        Ready::Unready(number, place) => Answer::Refused(number, place),
-        Ready::Cells(own) => Machine::lent(cells, own).peek(&table, a, i).answer,
+        Err(fault) => Answer::Refused(fault.number, fault.place),
+        Ok(own) => Machine::<CELLS>::lent(cells, own).peek(&table, a, i).answer,
     }
 }

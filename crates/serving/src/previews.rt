@@ -2,94 +2,60 @@
 ghost use Rattle.std.specs.Prelude.{◌≡◌, ◌/◌, ◌≤◌, min, length, replicate};
 ghost use Rattle.definitions.specs.Host.{preview_bytes};
 
-use super::calls::SMALL;
 use definitions::Answer;
-use machine::Machine;
-use ready::{Ready, prepare_to_serve};
+use machine::{CELLS, Call, Machine};
+use ready::prepare_to_serve;
 use tables::SIZE;
-use words::images::{ENOUGH, SHORT};
+use tables::programs::Program;
+use words::images::{ENOUGH, LONGEST, SHORT, SMALL};
 
 // Working arrays are lent: for the image's words, and for the places where its blocks end.
 fn preview_with(
     image: &[u8],
     cells: &[u8],
-    f: u32,
-    arguments: &[u8],
-    budget: u32,
+    request: Call<'_>,
     trace: &mut [u8],
     words: &mut [u32],
     ends: &mut [u16],
 ) -> Answer
     requires { (min (length image.now / 4) 16384 ≤ length words.old) × (ends.old ≡ replicate (length ends.old) 0) }
-    ensures { (result, cells.now, trace.new) ≡ preview_bytes image.now cells.now f arguments.now budget trace.old }
+    ensures { (result, cells.now, trace.new) ≡ preview_bytes image.now cells.now request.entry.procedure request.entry.arguments.now request.entry.budget trace.old }
 {
     let mut table = [0u32; SIZE];
     match prepare_to_serve(image, cells.len() / 4, words, &mut table, ends) {
-        Ready::Unready(number, place) => Answer::Refused(number, place),
-        Ready::Cells(own) => {
-            let n = image.len() / 4;
-            let machine = Machine::lent(cells, own);
-            let turn = machine.preview(&words[..n], &table, ends, f, arguments, budget, trace);
-            turn.answer
+        Err(fault) => Answer::Refused(fault.number, fault.place),
+        Ok(own) => {
+            let program = Program {
+                image: &words[..image.len() / 4],
+                table: &table,
+            };
+            let machine = Machine::<CELLS>::lent(cells, own);
+            machine.preview(program, ends, request, trace).answer
         }
     }
 }
 
-// A small routine.
-fn preview_small(
+// An image of at most N words.
+fn preview_sized<const N: usize>(
     image: &[u8],
     cells: &[u8],
-    f: u32,
-    arguments: &[u8],
-    budget: u32,
+    request: Call<'_>,
     trace: &mut [u8],
 ) -> Answer
-    requires { length image.now ≤ 256 }
-    ensures { (result, cells.now, trace.new) ≡ preview_bytes image.now cells.now f arguments.now budget trace.old }
+    requires { (min (length image.now / 4) 16384 ≤ N) × (N ≤ 16384) }
+    ensures { (result, cells.now, trace.new) ≡ preview_bytes image.now cells.now request.entry.procedure request.entry.arguments.now request.entry.budget trace.old }
 {
-    let mut words = [0u32; 64];
-    let mut ends = [0u16; 64];
-    preview_with(
-        image, cells, f, arguments, budget, trace, &mut words, &mut ends,
-    )
-}
-
-// A short image.
-fn preview_short(
-    image: &[u8],
-    cells: &[u8],
-    f: u32,
-    arguments: &[u8],
-    budget: u32,
-    trace: &mut [u8],
-) -> Answer
-    requires { length image.now ≤ 2048 }
-    ensures { (result, cells.now, trace.new) ≡ preview_bytes image.now cells.now f arguments.now budget trace.old }
-{
-    let mut words = [0u32; 512];
-    let mut ends = [0u16; 512];
-    preview_with(
-        image, cells, f, arguments, budget, trace, &mut words, &mut ends,
-    )
+    let mut words = [0u32; N];
+    let mut ends = [0u16; N];
+    preview_with(image, cells, request, trace, &mut words, &mut ends)
 }
 
 // An image of any length. Its arrays stand in a frame of their own, which a short image does not need.
 #[inline(never)]
-fn preview_long(
-    image: &[u8],
-    cells: &[u8],
-    f: u32,
-    arguments: &[u8],
-    budget: u32,
-    trace: &mut [u8],
-) -> Answer
-    ensures { (result, cells.now, trace.new) ≡ preview_bytes image.now cells.now f arguments.now budget trace.old }
+fn preview_long(image: &[u8], cells: &[u8], request: Call<'_>, trace: &mut [u8]) -> Answer
+    ensures { (result, cells.now, trace.new) ≡ preview_bytes image.now cells.now request.entry.procedure request.entry.arguments.now request.entry.budget trace.old }
 {
-    let mut words = [0u32; 16384];
-    let mut ends = [0u16; 16384];
-    preview_with(
-        image, cells, f, arguments, budget, trace, &mut words, &mut ends,
-    )
+    preview_sized::<LONGEST>(image, cells, request, trace)
 }
 
 // Procedure f on the arguments, in at most `budget` steps, over cells that are only read. A longer image is cut by a call of itself, as in a call.
@@ -106,11 +72,16 @@ pub fn preview(
     if ENOUGH < image.len() {
         return preview(&image[..ENOUGH], cells, f, arguments, budget, trace);
     }
-    if image.len() <= SMALL {
-        return preview_small(image, cells, f, arguments, budget, trace);
+    let request = Call {
+        procedure: f,
+        arguments,
+        budget,
+    };
+    if image.len() <= 4 * SMALL {
+        return preview_sized::<SMALL>(image, cells, request, trace);
     }
-    if image.len() <= SHORT {
-        return preview_short(image, cells, f, arguments, budget, trace);
+    if image.len() <= 4 * SHORT {
+        return preview_sized::<SHORT>(image, cells, request, trace);
     }
-    preview_long(image, cells, f, arguments, budget, trace)
+    preview_long(image, cells, request, trace)
 }

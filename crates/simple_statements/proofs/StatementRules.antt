@@ -1,164 +1,149 @@
 -- What each way out of assign, store and return gives, and what each call in them asks. Assumes nothing.
-use mathlib.Core.Path.{◌≡◌, refl, ap, ◌∙◌}
+use mathlib.Core.Path.{◌≡◌, refl}
 use mathlib.Core.List.{List}
 use Prim.Native.Nat.{ℕ, ◌+◌, ◌-◌}
 use lib.ListN.{get_or, set}
-use Rattle.definitions.specs.Image.{op_of, target_of, base_of, Expression, store}
-use Rattle.definitions.specs.Reading.{Parse, got, read_expression, read_statement}
-use Rattle.definitions.specs.Running.{Evaluated, value, stop, bind, within, emit, index_at, on, next, run_statement}
-use Rattle.definitions.specs.Running.{run_block, Ran as Run, evaluate as value_of}
+use Rattle.definitions.specs.Image.{op_of, target_of, base_of, Expression}
+use Rattle.definitions.specs.Reading.{got, read_expression, read_statement}
+use Rattle.definitions.specs.Running.{Evaluated, value, stop, bind, within, emit, index_at, on, halt, next, back, run_statement}
+use Rattle.definitions.specs.Running.{run_block, and_go, Ran as Run, evaluate as value_of}
 use Rattle.laws.specs.ImageIn.{image_in}
 use Rattle.laws.specs.StatementInversion.{open_assign, open_store, open_return}
 use Rattle.image_words.specs.Read.{ExpressionRead, StatementRead}
 use Rattle.image_words.specs.Parts.{expression_got}
-use Rattle.tables.specs.Table.{params_in, Known}
-use Rattle.tracing.specs.declared.Value.{Value}
-use Rattle.tracing.specs.declared.Value.TheVariants.{Got, Stop}
-use Rattle.tracing.specs.Log.{Log, log, byte_trace}
-use Rattle.tracing.specs.Answers.{evaluation, until}
+use Rattle.tables.specs.Table.{Known}
+use Rattle.tracing.specs.Log.{Log, byte_trace}
+use Rattle.evaluator.specs.declared.Value.{Value}
 use Rattle.evaluator.specs.Cells.{numbered}
 use Rattle.evaluator.specs.CellLaws.{numbered_is}
-use Rattle.evaluator.specs.Evaluation.{evaluate_at}
-use Rattle.evaluator.specs.Results.{until_got, until_stop, tree_got, tree_stop}
-use Rattle.simple_statements.specs.declared.Ran.{Ran}
-use Rattle.simple_statements.specs.declared.Ran.TheVariants.{On, Back}
-use Rattle.simple_statements.specs.Runs.{finished, stopped_at, placed, ending, callees, statement_at, slot_at}
+use Rattle.evaluator.specs.Evaluation.{found, until, evaluate_at}
+use Rattle.evaluator.specs.Results.{until_got}
+use Rattle.simple_statements.specs.Runs.{Went, went, gone, placed, ending, statement_at, slot_at}
 
--- two evaluations in a run are one
-pub within_two : {A B C : Type 0} (z : ℕ) (x : Evaluated Log A) (f : A → Log → Evaluated Log B) (g : B → Log → Run Log C)
-    → within z x (λ a t. within z (f a t) g) ≡ within z (bind x f) g
-within_two z (value a t) f g = refl
-within_two z (stop n q t) f g = refl
+module _ (l : ℕ) (image params : List ℕ) (me at : ℕ) (g : StatementRead l params me image at) where
+  pub assign_read : op_of (get_or image at 0) ≡ 0 → ExpressionRead (l - 1) image (at + 1)
+  assign_read h = let (e, n, w, p) = open_assign l params me image at g.read h in expression_got (l - 1) image (at + 1) e n w
 
--- ---- the number of a cell, by the array words
+  pub return_read : op_of (get_or image at 0) ≡ 4 → ExpressionRead (l - 1) image (at + 1)
+  return_read h = let (e, n, w, p) = open_return l params me image at g.read h in expression_got (l - 1) image (at + 1) e n w
 
-module _ (image table : List ℕ) (kn : Known image table) (a l : ℕ) where
-  abbrev arrays : List ℕ
-  arrays = (image_in image).arrays
+  pub store_read : op_of (get_or image at 0) ≡ 1 → ExpressionRead (l - 1) image (at + 1)
+  store_read h = let (i, n, e, m, w, v, p) = open_store l params me image at g.read h in expression_got (l - 1) image (at + 1) i n w
 
-  by_arrays : (x : Evaluated Log ℕ)
-      → bind x (λ v u. numbered table a l v u) ≡ bind (bind x (λ v u. index_at byte_trace arrays a l v u)) (λ j u. value (base_of arrays a + j) u)
-  by_arrays (value v u) = numbered_is image table kn a l v u
-  by_arrays (stop n q u) = refl
+module _ (l : ℕ) (image params : List ℕ) (me at : ℕ) (g : StatementRead l params me image at) (budget : ℕ) (vs cs : List ℕ) (t : Log) (z : ℕ) where
+  -- the run of the statement
+  abbrev defined : Run Log Went
+  defined = statement_at budget (image_in image) me at z t vs cs (read_statement l params me image at)
 
-  index_of : (x : Evaluated Log ℕ) (c : ℕ) (t : Log) → bind x (λ j u. value (base_of arrays a + j) u) ≡ value c t
-      → (j : ℕ) × (x ≡ value j t) × (c ≡ base_of arrays a + j)
-  index_of (value j u) c t e = (j, cc, cc)
-  index_of (stop n q u) c t e = (0, cc, cc)
+  -- the evaluation of its first expression
+  abbrev evaluated : Evaluated Log Value
+  evaluated = evaluate_at (image_in image).arrays vs cs t (read_expression (l - 1) image (at + 1))
 
-  stop_of : (x : Evaluated Log ℕ) (n q : ℕ) (t : Log) → bind x (λ j u. value (base_of arrays a + j) u) ≡ stop n q t → x ≡ stop n q t
-  stop_of (value j u) n q t e = cc
-  stop_of (stop m p u) n q t e = cc
+  module _ (h : op_of (get_or image at 0) ≡ 0) where
+    assign_opened : defined ≡ within z evaluated (λ p u. on (went p.next (set vs (target_of (get_or image at 0)) p.word) cs) z u)
+    unfolding statement_at ending placed run_statement run_block evaluate_at until
+    assign_opened = let (e, n, w, p) = open_assign l params me image at g.read h in rw (p, w) (step n (value_of byte_trace (image_in image).arrays e vs cs t))
+      where
+        step : (n : ℕ) (x : Evaluated Log ℕ)
+            → and_go (within z x (λ v u. on (next (set vs (target_of (get_or image at 0)) v) cs) z u)) (placed n)
+            ≡ within z (bind x (λ v u. value (found v n) u)) (λ p u. on (went p.next (set vs (target_of (get_or image at 0)) p.word) cs) z u)
+        step n (value v u) = refl
+        step n (stop i q u) = refl
 
-  module _ (vs cs : List ℕ) (t : Log) (x : Parse Expression) (e : Expression) (n : ℕ) (w : x ≡ got e n) (r : Value) (slice : List ℕ)
-      (d : evaluation r slice ≡ slot_at arrays table a l vs cs t x) where
-    at_slot : evaluation r slice
-        ≡ until n (bind (bind (value_of byte_trace arrays e vs cs t) (λ v u. index_at byte_trace arrays a l v u)) (λ j u. value (base_of arrays a + j) u))
-    unfolding slot_at
-    at_slot = (rw w at d) ∙ ap (until n) (by_arrays (value_of byte_trace arrays e vs cs t))
+    pub assign_stopped : (i q : ℕ) (t1 : Log) → stop i q t1 ≡ evaluated → halt i q z t1 ≡ defined
+    assign_stopped i q t1 d = rw (assign_opened, ← d)
 
-    slot_got : (c m u : ℕ) → r ≡ Got c m u
-        → (j : ℕ) × (bind (value_of byte_trace arrays e vs cs t) (λ v u. index_at byte_trace arrays a l v u) ≡ value j (log u slice))
-        × (c ≡ base_of arrays a + j) × (n ≡ m)
-    slot_got c m u s =
-        let (y, z) = until_got r slice n _ c m u at_slot s in
-        let (j, p, q) = index_of (bind (value_of byte_trace arrays e vs cs t) (λ v u. index_at byte_trace arrays a l v u)) c (log u slice) y in
-        (j, p, q, z)
+    pub assign_done : (p : Value) (t1 : Log) → value p t1 ≡ evaluated → (vs1 : List ℕ) (b x : ℕ) → vs1 ≡ set vs b p.word → b ≡ x
+        → x ≡ target_of (get_or image at 0) → on (went p.next vs1 cs) z t1 ≡ defined
+    assign_done p t1 d vs1 b x f hb hx = rw (assign_opened, ← d, f, hb, hx)
 
-    slot_stop : (i q u : ℕ) → r ≡ Stop i q u
-        → bind (value_of byte_trace arrays e vs cs t) (λ v u. index_at byte_trace arrays a l v u) ≡ stop i q (log u slice)
-    slot_stop i q u s =
-        stop_of (bind (value_of byte_trace arrays e vs cs t) (λ v u. index_at byte_trace arrays a l v u)) i q (log u slice) (until_stop r slice n _ i q u at_slot s)
+  module _ (h : op_of (get_or image at 0) ≡ 4) where
+    return_opened : defined ≡ within z evaluated (λ p u. within z (emit byte_trace 8 at 0 u) (λ b y. on (gone p.word cs) z y))
+    unfolding statement_at ending placed run_statement run_block evaluate_at until
+    return_opened = let (e, n, w, p) = open_return l params me image at g.read h in rw (p, w) (step n (value_of byte_trace (image_in image).arrays e vs cs t))
+      where
+        last : (n v : ℕ) (x : Evaluated Log ℕ)
+            → and_go (within z x (λ b y. on (back v cs) z y)) (placed n) ≡ within z x (λ b y. on (gone v cs) z y)
+        last n v (value b y) = refl
+        last n v (stop i q y) = refl
 
--- ---- what is given
+        step : (n : ℕ) (x : Evaluated Log ℕ)
+            → and_go (within z x (λ v u. within z (emit byte_trace 8 at 0 u) (λ b y. on (back v cs) z y))) (placed n)
+            ≡ within z (bind x (λ v u. value (found v n) u)) (λ p u. within z (emit byte_trace 8 at 0 u) (λ b y. on (gone p.word cs) z y))
+        step n (value v u) = last n v (emit byte_trace 8 at 0 u)
+        step n (stop i q u) = refl
 
-module _ (l : ℕ) (image table : List ℕ) (me at : ℕ) (g : StatementRead l (params_in table) me image at) (budget : ℕ) (vs cs slice : List ℕ) (used z : ℕ) where
-  -- the run of the statement, where a part's run gives x
-  abbrev Gives : Ran → List ℕ → List ℕ → List ℕ → Type 0
-  Gives x vs1 cs1 slice1 = finished x vs1 cs1 slice1
-      ≡ statement_at budget (image_in image) me at z (log used slice) vs cs (read_statement l (params_in table) me image at)
+    pub return_stopped : (i q : ℕ) (t1 : Log) → stop i q t1 ≡ evaluated → halt i q z t1 ≡ defined
+    return_stopped i q t1 d = rw (return_opened, ← d)
 
-  module _ (r : Value) (slice1 : List ℕ)
-      (d : evaluation r slice1 ≡ evaluate_at (image_in image).arrays vs cs (log used slice) (read_expression (l - 1) image (at + 1))) where
-    pub assign_stopped : (x : Ran) (k q u : ℕ) → op_of (get_or image at 0) ≡ 0 → x ≡ stopped_at r z → r ≡ Stop k q u → Gives x vs cs slice1
-    unfolding finished statement_at ending run_statement run_block stopped_at
-    assign_stopped x k q u h f s =
-        let (e, n, w, p) = open_assign l (params_in table) me image at g.read h in
-        rw (f, s, p, tree_stop (image_in image).arrays vs cs (log used slice) _ e n w r slice1 d k q u s)
+    module _ (p : Value) (t1 : Log) (d : value p t1 ≡ evaluated) (t2 : Log) where
+      pub return_full : (i q : ℕ) → stop i q t2 ≡ emit byte_trace 8 at 0 t1 → halt i q z t2 ≡ defined
+      return_full i q e = rw (return_opened, ← d, ← e)
 
-    pub assign_done : (vs1 : List ℕ) (v m u x b : ℕ) → op_of (get_or image at 0) ≡ 0 → r ≡ Got v m u → x ≡ target_of (get_or image at 0) → b ≡ x
-        → vs1 ≡ set vs b v → Gives (On m u z) vs1 cs slice1
-    unfolding finished statement_at ending placed run_statement run_block
-    assign_done vs1 v m u x b h s hx hb f =
-        let (e, n, w, p) = open_assign l (params_in table) me image at g.read h in
-        let (y, i) = tree_got (image_in image).arrays vs cs (log used slice) _ e n w r slice1 d v m u s in rw (p, y, i, f, hb, hx)
+      pub return_done : (b : ℕ) → value b t2 ≡ emit byte_trace 8 at 0 t1 → on (gone p.word cs) z t2 ≡ defined
+      return_done b e = rw (return_opened, ← d, ← e)
 
-    pub return_stopped : (x : Ran) (k q u : ℕ) → op_of (get_or image at 0) ≡ 4 → x ≡ stopped_at r z → r ≡ Stop k q u → Gives x vs cs slice1
-    unfolding finished statement_at ending run_statement run_block stopped_at
-    return_stopped x k q u h f s =
-        let (e, n, w, p) = open_return l (params_in table) me image at g.read h in
-        rw (f, s, p, tree_stop (image_in image).arrays vs cs (log used slice) _ e n w r slice1 d k q u s)
+  -- the array of a store
+  abbrev array : ℕ
+  array = target_of (get_or image at 0)
 
-    module _ (v m u : ℕ) (h : op_of (get_or image at 0) ≡ 4) (s : r ≡ Got v m u) (r2 : Value) (slice2 : List ℕ)
-        (d2 : evaluation r2 slice2 ≡ until m (emit byte_trace 8 at 0 (log u slice1))) where
-      pub return_full : (x : Ran) (k q u2 : ℕ) → x ≡ stopped_at r2 z → r2 ≡ Stop k q u2 → Gives x vs cs slice2
-      unfolding finished statement_at ending run_statement run_block stopped_at
-      return_full x k q u2 f s2 =
-          let (e, n, w, p) = open_return l (params_in table) me image at g.read h in
-          let (y, i) = tree_got (image_in image).arrays vs cs (log used slice) _ e n w r slice1 d v m u s in
-          rw (f, s2, p, y, until_stop r2 slice2 m (emit byte_trace 8 at 0 (log u slice1)) k q u2 d2 s2)
+  module _ (h : op_of (get_or image at 0) ≡ 1) where
+    module _ (table : List ℕ) (kn : Known image table) where
+      -- the number of its cell
+      abbrev slotted : ℕ → Evaluated Log Value
+      slotted a = slot_at (image_in image).arrays table a at vs cs t (read_expression (l - 1) image (at + 1))
 
-      pub return_done : (b n2 u2 : ℕ) → r2 ≡ Got b n2 u2 → Gives (Back v u2 z) vs cs slice2
-      unfolding finished statement_at ending placed run_statement run_block
-      return_done b n2 u2 s2 =
-          let (e, n, w, p) = open_return l (params_in table) me image at g.read h in
-          let (y, i) = tree_got (image_in image).arrays vs cs (log used slice) _ e n w r slice1 d v m u s in
-          let (y2, i2) = until_got r2 slice2 m (emit byte_trace 8 at 0 (log u slice1)) b n2 u2 d2 s2 in
-          rw (p, y, y2)
+      store_opened : defined ≡ within z (slotted array)
+          (λ p u. within z (evaluate_at (image_in image).arrays vs cs u (read_expression (l - 1) image p.next))
+          (λ r y. on (went r.next vs (set cs p.word r.word)) z y))
+      unfolding statement_at ending placed run_statement run_block slot_at evaluate_at until
+      store_opened =
+          let (i, n, e, m, w, v, p) = open_store l params me image at g.read h in
+          rw (p, w) (step e n m v (value_of byte_trace (image_in image).arrays i vs cs t))
+        where
+          last : (m j : ℕ) (x : Evaluated Log ℕ)
+              → and_go (within z x (λ w y. on (next vs (set cs (base_of (image_in image).arrays array + j) w)) z y)) (placed m)
+              ≡ within z (bind x (λ w y. value (found w m) y)) (λ r y. on (went r.next vs (set cs (base_of (image_in image).arrays array + j) r.word)) z y)
+          last m j (value w y) = refl
+          last m j (stop i q y) = refl
 
-  module _ (kn : Known image table) (h : op_of (get_or image at 0) ≡ 1) (a : ℕ) (ha : a ≡ target_of (get_or image at 0)) (r : Value) (slice1 : List ℕ)
-      (d : evaluation r slice1 ≡ slot_at (image_in image).arrays table a at vs cs (log used slice) (read_expression (l - 1) image (at + 1))) where
-    -- a store as one evaluation of the cell's number and what follows
-    store_run : (i e : Expression)
-        → run_statement byte_trace budget (image_in image).arrays (callees budget (image_in image) me) at (store a i e) z (log used slice) vs cs
-        ≡ within z (bind (value_of byte_trace (image_in image).arrays i vs cs (log used slice)) (λ v u. index_at byte_trace (image_in image).arrays a at v u))
-        (λ j x. within z (value_of byte_trace (image_in image).arrays e vs cs x)
-        (λ w y. on (next vs (set cs (base_of (image_in image).arrays a + j) w)) z y))
-    unfolding run_statement run_block
-    store_run i e =
-        within_two z (value_of byte_trace (image_in image).arrays i vs cs (log used slice)) (λ v u. index_at byte_trace (image_in image).arrays a at v u)
-        (λ j x. within z (value_of byte_trace (image_in image).arrays e vs cs x)
-        (λ w y. on (next vs (set cs (base_of (image_in image).arrays a + j) w)) z y))
+          middle : (e : Expression) (n m : ℕ) → read_expression (l - 1) image n ≡ got e m → (x : Evaluated Log ℕ)
+              → and_go (within z x (λ j u. within z (value_of byte_trace (image_in image).arrays e vs cs u)
+              (λ w y. on (next vs (set cs (base_of (image_in image).arrays array + j) w)) z y))) (placed m)
+              ≡ within z (bind (bind x (λ j u. value (base_of (image_in image).arrays array + j) u)) (λ w y. value (found w n) y))
+              (λ p u. within z (evaluate_at (image_in image).arrays vs cs u (read_expression (l - 1) image p.next))
+              (λ r y. on (went r.next vs (set cs p.word r.word)) z y))
+          middle e n m f (value j u) = rw f (last m j (value_of byte_trace (image_in image).arrays e vs cs u))
+          middle e n m f (stop i q u) = refl
 
-    pub store_stopped : (x : Ran) (k q u : ℕ) → x ≡ stopped_at r z → r ≡ Stop k q u → Gives x vs cs slice1
-    unfolding finished statement_at ending stopped_at
-    store_stopped x k q u f s =
-        let (i, n, e, m, w, v, p) = open_store l (params_in table) me image at g.read h in
-        rw (f, s, p, ← ha, store_run i e, slot_stop image table kn a at vs cs (log used slice) _ i n w r slice1 d k q u s)
+          step : (e : Expression) (n m : ℕ) → read_expression (l - 1) image n ≡ got e m → (x : Evaluated Log ℕ)
+              → and_go (within z x (λ v u. within z (index_at byte_trace (image_in image).arrays array at v u)
+              (λ j u₁. within z (value_of byte_trace (image_in image).arrays e vs cs u₁)
+              (λ w y. on (next vs (set cs (base_of (image_in image).arrays array + j) w)) z y)))) (placed m)
+              ≡ within z (bind (bind x (λ v u. numbered table array at v u)) (λ w y. value (found w n) y))
+              (λ p u. within z (evaluate_at (image_in image).arrays vs cs u (read_expression (l - 1) image p.next))
+              (λ r y. on (went r.next vs (set cs p.word r.word)) z y))
+          step e n m f (value v u) = rw (numbered_is image table kn array at v u) (middle e n m f (index_at byte_trace (image_in image).arrays array at v u))
+          step e n m f (stop i q u) = refl
 
-    module _ (c m u : ℕ) (s : r ≡ Got c m u) where
-      pub stored_read : ExpressionRead (l - 1) image m
-      stored_read =
-          let (i, n, e, o, w, v, p) = open_store l (params_in table) me image at g.read h in
-          let (j, y, b, f) = slot_got image table kn a at vs cs (log used slice) _ i n w r slice1 d c m u s in
-          expression_got (l - 1) image m e o (rw f at v)
+      module _ (a : ℕ) (ha : a ≡ target_of (get_or image at 0)) where
+        pub store_stopped : (i q : ℕ) (t1 : Log) → stop i q t1 ≡ slotted a → halt i q z t1 ≡ defined
+        store_stopped i q t1 d = rw (store_opened, ← ha, ← d)
 
-      module _ (r2 : Value) (slice2 : List ℕ)
-          (d2 : evaluation r2 slice2 ≡ evaluate_at (image_in image).arrays vs cs (log u slice1) (read_expression (l - 1) image m)) where
-        pub store_stopped2 : (x : Ran) (k q u2 : ℕ) → x ≡ stopped_at r2 z → r2 ≡ Stop k q u2 → Gives x vs cs slice2
-        unfolding finished statement_at ending stopped_at
-        store_stopped2 x k q u2 f s2 =
-            let (i, n, e, o, w, v, p) = open_store l (params_in table) me image at g.read h in
-            let (j, y, b, t) = slot_got image table kn a at vs cs (log used slice) _ i n w r slice1 d c m u s in
-            let v2 : read_expression (l - 1) image m ≡ got e o = rw t at v in
-            rw (f, s2, p, ← ha, store_run i e, y, tree_stop (image_in image).arrays vs cs (log u slice1) _ e o v2 r2 slice2 d2 k q u2 s2)
+        module _ (p : Value) (t1 : Log) (d : value p t1 ≡ slotted a) where
+          pub stored_read : ExpressionRead (l - 1) image p.next
+          unfolding slot_at
+          stored_read =
+              let (i, n, e, m, w, v, q) = open_store l params me image at g.read h in
+              let f : value p t1 ≡ until n (bind (value_of byte_trace (image_in image).arrays i vs cs t) (λ v u. numbered table a at v u)) = rw w at d in
+              let (y, k) = until_got p t1 n _ f in
+              expression_got (l - 1) image p.next e m (rw k at v)
 
-        pub store_done : (x m2 u2 k : ℕ) (cs1 : List ℕ) → r2 ≡ Got x m2 u2 → k ≡ c → cs1 ≡ set cs k x → Gives (On m2 u2 z) vs cs1 slice2
-        unfolding finished statement_at ending placed
-        store_done x m2 u2 k cs1 s2 hk f =
-            let (i, n, e, o, w, v, p) = open_store l (params_in table) me image at g.read h in
-            let (j, y, b, t) = slot_got image table kn a at vs cs (log used slice) _ i n w r slice1 d c m u s in
-            let v2 : read_expression (l - 1) image m ≡ got e o = rw t at v in
-            let (y2, i2) = tree_got (image_in image).arrays vs cs (log u slice1) _ e o v2 r2 slice2 d2 x m2 u2 s2 in
-            let f2 : cs1 ≡ set cs (base_of (image_in image).arrays a + j) x = f ∙ ap (λ (q : ℕ). set cs q x) (hk ∙ b) in
-            rw (p, ← ha, store_run i e, y, y2, i2, f2)
+          module _ (t2 : Log) where
+            pub store_stopped2 : (i q : ℕ) → stop i q t2 ≡ evaluate_at (image_in image).arrays vs cs t1 (read_expression (l - 1) image p.next)
+                → halt i q z t2 ≡ defined
+            store_stopped2 i q e = rw (store_opened, ← ha, ← d, ← e)
+
+            pub store_done : (r : Value) (cs1 : List ℕ) (b : ℕ) → value r t2 ≡ evaluate_at (image_in image).arrays vs cs t1 (read_expression (l - 1) image p.next)
+                → cs1 ≡ set cs b r.word → b ≡ p.word → on (went r.next vs cs1) z t2 ≡ defined
+            store_done r cs1 b e f hb = rw (store_opened, ← ha, ← d, ← e, f, hb)

@@ -2,44 +2,45 @@
 // variables, the cells and the lent trace bytes is what the definition gives on the tree that the words spell.
 #![tactic(auto)]
 
+use evaluator::CELLS;
+use tables::programs::Program;
+use tracing::Trace;
+
 pub mod parts; // what statements are made of
 pub mod statement_words; // assign, store and return
 
 // The most values of a call.
 pub const PARAMETERS: usize = 9;
 
-// Where a statement or block is run: in the body of a procedure, with levels that are left, under a budget.
+// The body that is run: of procedure `me` of a program, with the ends of its blocks, under a budget of steps.
 #[derive(Clone, Copy)]
-pub struct Scope {
+pub struct Scope<'a> {
+    pub program: Program<'a>,
+    pub ends: &'a [u16],
     pub me: u32,
-    pub level: u32,
     pub budget: u32,
 }
 
-// How far a run has come: the place of the next word, the trace bytes used, the steps.
-#[derive(Clone, Copy)]
-pub struct Point {
-    pub at: usize,
-    pub used: usize,
+// What a run changes, whichever procedure's body it is in: the cells, the trace, the steps taken.
+// (The trace by reference: with a Trace in it, what its bytes hold once the state is let go was tried, and not proved.)
+#[derive(Drop)]
+pub struct State<'c, 't, 'b> {
+    pub cells: &'c mut [u32; CELLS],
+    pub trace: &'t mut Trace<'b>,
     pub steps: u32,
 }
 
-// What a run of a statement or block comes to.
-#[derive(Clone, Copy)]
+// What a run of a statement or block comes to, where nothing stops it.
+#[derive(Clone, Copy, PartialEq, Eq)]
 pub enum Ran {
-    // on to the next: its place, the trace bytes used, the steps
-    On(usize, usize, u32),
-    // a return: its value, the trace bytes used, the steps
-    Back(u32, usize, u32),
-    // a stop: document 01's number and place, the trace bytes used, the steps
-    Stop(u32, usize, usize, u32),
+    On(usize), // on to the next: its place
+    Back(u32), // a return: its value
 }
 
-// What the bounds of a for come to.
-#[derive(Clone, Copy)]
-pub enum Bounds {
-    // from, to, the place after them, the trace bytes used
-    Both(u32, u32, usize, usize),
-    // a stop: document 01's number and place, the trace bytes used
-    None(u32, usize, usize),
+// The bounds of a for, and the place after them.
+#[derive(Clone, Copy, PartialEq, Eq)]
+pub struct Bounds {
+    pub from: u32,
+    pub to: u32,
+    pub next: usize,
 }

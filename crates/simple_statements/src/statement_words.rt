@@ -1,129 +1,88 @@
 // Statements that run no block: assign, store and return.
 ghost use Rattle.std.specs.Prelude.{◌≡◌, ◌<◌, ◌≤◌, get_or};
 ghost use Rattle.definitions.specs.Image.{op_of};
-ghost use Rattle.definitions.specs.Reading.{read_statement};
-ghost use Rattle.laws.specs.ImageIn.{image_in};
 ghost use Rattle.image_words.specs.Read.{StatementRead};
-ghost use Rattle.tables.specs.Table.{params_in, Known};
-ghost use Rattle.tracing.specs.Log.{log};
-ghost use Rattle.simple_statements.specs.Runs.{finished, statement_at};
+ghost use Rattle.tables.specs.Table.{params_in};
+ghost use Rattle.simple_statements.specs.Runs.{SameLent, finished, statement_run};
 
-use super::parts::{slot, stopped};
-use super::{Point, Ran, Scope};
-use evaluator::{CELLS, VARIABLES, evaluate, operand};
+use super::parts::slot;
+use super::{Ran, Scope, State};
+use evaluator::{Memory, VARIABLES, evaluate, operand};
 use image_words::lists::{put, wide};
 use image_words::target;
-use tables::SIZE;
-use tracing::Value;
+use tracing::{Entry, Stop};
 
 // The value goes to the variable.
+#[tactic(auto, using(crate::proofs::StatementRules::assign_read, crate::proofs::StatementRules::assign_stopped, crate::proofs::StatementRules::assign_done))]
 pub fn run_assign(
-    image: &[u32],
-    table: &[u32; SIZE],
+    scope: &Scope<'_>,
     vars: &mut [u32; VARIABLES],
-    cells: &[u32; CELLS],
-    trace: &mut [u8],
-    scope: Scope,
-    point: Point,
-) -> Ran
-    requires { StatementRead scope.level (params_in table.now) scope.me image.now point.at × Known image.now table.now
-        × (op_of (get_or image.now point.at 0) ≡ 0) }
-    ensures { finished result vars.new cells.now trace.new ≡ statement_at scope.budget (image_in image.now) scope.me
-        point.at point.steps (log point.used trace.old) vars.old cells.now
-        (read_statement scope.level (params_in table.now) scope.me image.now point.at) }
+    state: &mut State<'_, '_, '_>,
+    at: usize,
+    level: u32,
+) -> Result<Ran, Stop>
+    requires { StatementRead level (params_in scope.now.program.table.now) scope.now.me scope.now.program.image.now at
+        × (op_of (get_or scope.now.program.image.now at 0) ≡ 0) }
+    ensures answer { finished result vars.new state.new ≡ statement_run scope.now level at vars.old state.old }
+    ensures same { SameLent state.old state.new }
 {
-    let at = point.at;
-    let x = target(image[at]);
-    let r = operand(
-        image,
-        table,
+    let x = target(scope.program.image[at]);
+    let memory = Memory {
+        program: scope.program,
         vars,
-        cells,
-        trace,
-        at + 1,
-        point.used,
-        scope.level - 1,
-    );
-    let Value::Got(v, n, u) = r else {
-        return stopped(r, point.steps);
+        cells: state.cells,
     };
-    put(vars, wide(x), v);
-    Ran::On(n, u, point.steps)
+    let value = operand(&memory, state.trace, at + 1, level - 1)?;
+    put(vars, wide(x), value.word);
+    Ok(Ran::On(value.next))
 }
 
 // The index is tested before the value is evaluated.
+#[tactic(auto, using(crate::proofs::StatementRules::store_read, crate::proofs::StatementRules::stored_read, crate::proofs::StatementRules::store_stopped, crate::proofs::StatementRules::store_stopped2, crate::proofs::StatementRules::store_done))]
 pub fn run_store(
-    image: &[u32],
-    table: &[u32; SIZE],
+    scope: &Scope<'_>,
     vars: &[u32; VARIABLES],
-    cells: &mut [u32; CELLS],
-    trace: &mut [u8],
-    scope: Scope,
-    point: Point,
-) -> Ran
-    requires { StatementRead scope.level (params_in table.now) scope.me image.now point.at × Known image.now table.now
-        × (op_of (get_or image.now point.at 0) ≡ 1) }
-    ensures { finished result vars.now cells.new trace.new ≡ statement_at scope.budget (image_in image.now) scope.me
-        point.at point.steps (log point.used trace.old) vars.now cells.old
-        (read_statement scope.level (params_in table.now) scope.me image.now point.at) }
+    state: &mut State<'_, '_, '_>,
+    at: usize,
+    level: u32,
+) -> Result<Ran, Stop>
+    requires { StatementRead level (params_in scope.now.program.table.now) scope.now.me scope.now.program.image.now at
+        × (op_of (get_or scope.now.program.image.now at 0) ≡ 1) }
+    ensures answer { finished result vars.now state.new ≡ statement_run scope.now level at vars.now state.old }
+    ensures same { SameLent state.old state.new }
 {
-    let at = point.at;
-    let array = target(image[at]);
-    let r = slot(
-        image,
-        table,
+    let array = target(scope.program.image[at]);
+    let memory = Memory {
+        program: scope.program,
         vars,
-        cells,
-        trace,
-        at,
-        array,
-        point.used,
-        scope.level - 1,
-    );
-    let Value::Got(i, n, u) = r else {
-        return stopped(r, point.steps);
+        cells: state.cells,
     };
-    let s = operand(image, table, vars, cells, trace, n, u, scope.level - 1);
-    let Value::Got(v, m, u2) = s else {
-        return stopped(s, point.steps);
-    };
-    put(cells, wide(i), v);
-    Ran::On(m, u2, point.steps)
+    let cell = slot(&memory, state.trace, at, array, level - 1)?;
+    let value = operand(&memory, state.trace, cell.next, level - 1)?;
+    put(state.cells, wide(cell.word), value.word);
+    Ok(Ran::On(value.next))
 }
 
 // The value is evaluated before the return is recorded.
+#[tactic(auto, using(crate::proofs::PartRules::place_near, crate::proofs::StatementRules::return_read, crate::proofs::StatementRules::return_stopped, crate::proofs::StatementRules::return_full, crate::proofs::StatementRules::return_done))]
 pub fn run_return(
-    image: &[u32],
-    table: &[u32; SIZE],
+    scope: &Scope<'_>,
     vars: &[u32; VARIABLES],
-    cells: &[u32; CELLS],
-    trace: &mut [u8],
-    scope: Scope,
-    point: Point,
-) -> Ran
-    requires { StatementRead scope.level (params_in table.now) scope.me image.now point.at × Known image.now table.now
-        × (op_of (get_or image.now point.at 0) ≡ 4) }
-    ensures { finished result vars.now cells.now trace.new ≡ statement_at scope.budget (image_in image.now) scope.me
-        point.at point.steps (log point.used trace.old) vars.now cells.now
-        (read_statement scope.level (params_in table.now) scope.me image.now point.at) }
+    state: &mut State<'_, '_, '_>,
+    at: usize,
+    level: u32,
+) -> Result<Ran, Stop>
+    requires { StatementRead level (params_in scope.now.program.table.now) scope.now.me scope.now.program.image.now at
+        × (op_of (get_or scope.now.program.image.now at 0) ≡ 4) }
+    ensures answer { finished result vars.now state.new ≡ statement_run scope.now level at vars.now state.old }
+    ensures same { SameLent state.old state.new }
 {
-    let at = point.at;
-    let r = evaluate(
-        image,
-        table,
+    let memory = Memory {
+        program: scope.program,
         vars,
-        cells,
-        trace,
-        at + 1,
-        point.used,
-        scope.level - 1,
-    );
-    let Value::Got(v, n, u) = r else {
-        return stopped(r, point.steps);
+        cells: state.cells,
     };
-    let s = tracing::note(trace, u, tracing::RETURNED, at, 0, n);
-    let Value::Got(_, _, u2) = s else {
-        return stopped(s, point.steps);
-    };
-    Ran::Back(v, u2, point.steps)
+    let value = evaluate(&memory, state.trace, at + 1, level - 1)?;
+    state.trace.record(Entry::Returned, at, 0)?;
+    Ok(Ran::Back(value.word))
 }

@@ -18,9 +18,8 @@ use Rattle.image_words.specs.Read.{BlockRead, statements_at}
 use Rattle.image_words.specs.StatementParts.{no_statement, first_statement, read_then, read_else, read_body}
 use Rattle.image_words.specs.Rest.{statements_left}
 use Rattle.sorts.specs.declared.Scope.{Scope}
-use Rattle.sorts.specs.declared.WalkedExpression.{WalkedExpression}
 use Rattle.sorts.specs.declared.Walked.{Walked}
-use Rattle.sorts.specs.Walk.{walk, operand_walked, statement_walked, block_walked}
+use Rattle.sorts.specs.Walk.{Found, walk, operand_walked, statement_walked, block_walked}
 use Rattle.sorts.proofs.ExpressionRules.{operand_next}
 
 module _ (ps : List Procedure) (types : List ℕ) (arrays : ℕ) (marks : List ℕ) (scope : Scope) (best : Fault) where
@@ -67,7 +66,7 @@ module _ (ps : List Procedure) (types : List ℕ) (arrays : ℕ) (marks : List �
 -- if and for
 module _ (types : List ℕ) (arrays : ℕ) (marks : List ℕ) (l : ℕ) (params : List ℕ) (me : ℕ) (image : List ℕ) (at : ℕ)
     (t : ok (read_statement l params me image at) ≡ true) where
-  module _ (k : op_of (get_or image at 0) ≡ 2) (best : Fault) (c : WalkedExpression)
+  module _ (k : op_of (get_or image at 0) ≡ 2) (best : Fault) (c : Found)
       (q : c ≡ operand_walked types arrays marks 1 best (read_expression (l - 1) image (at + 1))) where
     pub then_fine : BlockRead (l - 1) params me image c.next
     then_fine = read_then l params me image at t _ refl k c.next (operand_next types arrays marks best 1 _ c q)
@@ -91,7 +90,7 @@ module _ (types : List ℕ) (arrays : ℕ) (marks : List ℕ) (l : ℕ) (params 
               → b ≡ statement_walked ps types arrays marks scope at best (read_statement l params me image at)
           go d n x m y o r s u z = rw (z, v, e, p, q, r, s, u) (simp least_append)
 
-  module _ (k : op_of (get_or image at 0) ≡ 3) (noted : Fault) (f v : WalkedExpression)
+  module _ (k : op_of (get_or image at 0) ≡ 3) (noted : Fault) (f v : Found)
       (q : f ≡ operand_walked types arrays marks 0 noted (read_expression (l - 1) image (at + 1)))
       (p : v ≡ operand_walked types arrays marks 0 f.best (read_expression (l - 1) image f.next)) where
     pub body_fine : BlockRead (l - 1) params me image v.next

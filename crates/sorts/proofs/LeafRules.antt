@@ -1,15 +1,14 @@
 -- Rules for the functions that look at one word: one for each way in which they return. Assumes nothing.
-use Prim.Native.Nat.{ℕ, zero, suc, ◌≤◌, ◌<◌}
+use Prim.Native.Nat.{ℕ, ◌≤◌, ◌<◌}
 use mathlib.Core.Bool.{Bool, not, ◌||◌}
 use mathlib.Core.List.{List}
-use mathlib.Core.Path.{◌≡◌, refl}
+use mathlib.Core.Path.{◌≡◌}
 use lib.Dec.{leb, eqb, ltb}
 use lib.ListN.{length, get_or}
 use borrow.Author.Tests.{lt-ltb, le-ltb}
 use Rattle.definitions.specs.declared.Fault.{Fault}
 use Rattle.definitions.specs.Image.{type_secret, type_sort}
 use Rattle.definitions.specs.Faults.{least, fault_if}
-use Rattle.definitions.specs.Operators.{unary_operand, unary_result}
 use Rattle.definitions.specs.Sorts.{sort_of, loop_fault}
 use Rattle.sorts.specs.Walk.{target_noted}
 
@@ -19,27 +18,9 @@ sort_known types x i s e h g = rw (← e, lt-ltb i (length types) h, g)
 pub sort_unknown : (types : List ℕ) (x i : ℕ) → i ≡ x → length types ≤ i → 2 ≡ sort_of types x
 sort_unknown types x i e h = rw (← e, le-ltb i (length types) h)
 
-pub operand_word : (op : ℕ) → (op ≡ 0 → ⊥) → (op ≡ 2 → ⊥) → 0 ≡ unary_operand op
-operand_word zero f g = absurd (f refl)
-operand_word (suc zero) f g = refl
-operand_word (suc (suc zero)) f g = absurd (g refl)
-operand_word (suc (suc (suc n))) f g = refl
-
-pub result_word : (op : ℕ) → (op ≡ 0 → ⊥) → 0 ≡ unary_result op
-result_word zero f = absurd (f refl)
-result_word (suc zero) f = refl
-result_word (suc (suc zero)) f = refl
-result_word (suc (suc (suc n))) f = refl
-
-pub ruleset leaf_rules = (sort_known, sort_unknown, operand_word, result_word)
-
 -- a variable is read, written, or named by a for: two faults are noted, one after the other
 module _ (types marks : List ℕ) (x at : ℕ) (best m r : Fault) (i k : ℕ) (h : m ≡ least best (fault_if (leb (length types) x) 6 at))
     (e : i ≡ x) (g : k ≡ get_or marks i 0) where
-  pub read_notes : r ≡ least m (fault_if (eqb k 1) 8 at)
-      → r ≡ least (least best (fault_if (leb (length types) x) 6 at)) (fault_if (eqb (get_or marks x 0) 1) 8 at)
-  read_notes d = rw (← h, ← e, ← g, d)
-
   pub write_notes : r ≡ least m (fault_if (not (eqb k 0)) 8 at) → r ≡ target_noted types marks x at best
   write_notes d = rw (← h, ← e, ← g, d)
 

@@ -3,4 +3,5 @@ pub mod ExpressionRules
 pub mod StatementRules
 pub mod BlockRules
 pub mod MarkRules
+pub mod MarkTable
 pub mod ProcedureRules

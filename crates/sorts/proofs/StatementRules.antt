@@ -19,9 +19,8 @@ use Rattle.image_words.specs.Read.{arguments_at}
 use Rattle.image_words.specs.StatementParts.{no_argument, first_argument}
 use Rattle.image_words.specs.Rest.{arguments_left}
 use Rattle.sorts.specs.declared.Scope.{Scope}
-use Rattle.sorts.specs.declared.WalkedExpression.{WalkedExpression}
 use Rattle.sorts.specs.declared.Walked.{Walked}
-use Rattle.sorts.specs.Walk.{walk, target_noted, operand_walked, arguments_walked, statement_walked}
+use Rattle.sorts.specs.Walk.{Found, walk, target_noted, operand_walked, arguments_walked, statement_walked}
 use Rattle.sorts.proofs.ExpressionRules.{operand_next}
 
 -- the values of a call that are left
@@ -33,7 +32,7 @@ module _ (types : List ℕ) (arrays : ℕ) (marks callee : List ℕ) (l : ℕ) (
         let z : n - j ≡ 0 = omega arith in
         sym (ap (λ k. arguments_walked types arrays marks callee j best k) (ap (λ k. arguments_at k l image at) z ∙ no_argument l image at)) ∙ d
 
-    pub arguments_more : ok (arguments_at (n - j) l image at) ≡ true → j < n → (want : ℕ) (i : WalkedExpression) → want ≡ sort_of callee j
+    pub arguments_more : ok (arguments_at (n - j) l image at) ≡ true → j < n → (want : ℕ) (i : Found) → want ≡ sort_of callee j
         → i ≡ operand_walked types arrays marks want best (read_expression l image at)
         → arguments_walked types arrays marks callee (j + 1) i.best (arguments_at (n - (j + 1)) l image i.next) ≡ X
     unfolding arguments_walked operand_walked argument_faults
@@ -46,7 +45,7 @@ module _ (types : List ℕ) (arrays : ℕ) (marks callee : List ℕ) (l : ℕ) (
             let z : n - (j + 1) ≡ n - j - 1 = omega arith in
             rw (z, q, r, s, g) (ap (walk o) (simp least_append) ∙ sym (ap (λ k. arguments_walked types arrays marks callee j best k) v) ∙ d)
 
-  pub arguments_again : ok (arguments_at (n - j) l image at) ≡ true → j < n → (want : ℕ) (i : WalkedExpression)
+  pub arguments_again : ok (arguments_at (n - j) l image at) ≡ true → j < n → (want : ℕ) (i : Found)
       → i ≡ operand_walked types arrays marks want best (read_expression l image at) → ok (arguments_at (n - (j + 1)) l image i.next) ≡ true
   arguments_again t h want i q = arguments_left l image n at j t h i.next (operand_next types arrays marks best want _ i q)
 
@@ -56,7 +55,7 @@ module _ (ps : List Procedure) (types : List ℕ) (arrays : ℕ) (marks : List �
   abbrev Returned : Walked → Type 0
   Returned w = w ≡ statement_walked ps types arrays marks scope at best (read_statement l params me image at)
 
-  pub assign_returns : (x : ℕ) (m : Fault) (want : ℕ) (i : WalkedExpression) → op_of (get_or image at 0) ≡ 0 → x ≡ target_of (get_or image at 0)
+  pub assign_returns : (x : ℕ) (m : Fault) (want : ℕ) (i : Found) → op_of (get_or image at 0) ≡ 0 → x ≡ target_of (get_or image at 0)
       → m ≡ target_noted types marks x at best → want ≡ sort_of types x
       → i ≡ operand_walked types arrays marks want m (read_expression (l - 1) image (at + 1)) → Returned (walk i.next i.best)
   unfolding statement_walked operand_walked statement_sort_faults
@@ -66,7 +65,7 @@ module _ (ps : List Procedure) (types : List ℕ) (arrays : ℕ) (marks : List �
           → read_statement l params me image at ≡ got (assign (target_of (get_or image at 0)) e) n → Returned (walk i.next i.best)
       go e n r z = rw (z, q, r, h, g, hx) (simp least_append)
 
-  pub return_returns : (want : ℕ) (i : WalkedExpression) → op_of (get_or image at 0) ≡ 4 → want ≡ type_sort scope.result
+  pub return_returns : (want : ℕ) (i : Found) → op_of (get_or image at 0) ≡ 4 → want ≡ type_sort scope.result
       → i ≡ operand_walked types arrays marks want best (read_expression (l - 1) image (at + 1)) → Returned (walk i.next i.best)
   unfolding statement_walked operand_walked statement_sort_faults
   return_returns want i k h q = let (e, n, r, z) = open_return l params me image at t k in go e n r z
@@ -75,7 +74,7 @@ module _ (ps : List Procedure) (types : List ℕ) (arrays : ℕ) (marks : List �
           → Returned (walk i.next i.best)
       go e n r z = rw (z, q, r, h)
 
-  pub store_returns : (c a : ℕ) (m : Fault) (i j : WalkedExpression) → op_of (get_or image at 0) ≡ 1 → c ≡ arrays → a ≡ target_of (get_or image at 0)
+  pub store_returns : (c a : ℕ) (m : Fault) (i j : Found) → op_of (get_or image at 0) ≡ 1 → c ≡ arrays → a ≡ target_of (get_or image at 0)
       → m ≡ least best (fault_if (leb c a) 6 at)
       → i ≡ operand_walked types arrays marks 0 m (read_expression (l - 1) image (at + 1))
       → j ≡ operand_walked types arrays marks 0 i.best (read_expression (l - 1) image i.next) → Returned (walk j.next j.best)

@@ -9,9 +9,19 @@ use Rattle.definitions.specs.Sorts.{block_sort_faults}
 use Rattle.sorts.specs.declared.Scope.{Scope}
 use Rattle.sorts.specs.declared.WalkedExpression.{WalkedExpression}
 use Rattle.sorts.specs.declared.Walked.{Walked}
+use Rattle.sorts.specs.Numbers.{number_of}
 
-abbrev pub found : ℕ → ℕ → Fault → WalkedExpression
+-- what the walk of an expression found, with its sort by number
+pub record Found : Type 0 where
+  pub sort : ℕ
+  pub next : ℕ
+  pub best : Fault
+
+abbrev pub found : ℕ → ℕ → Fault → Found
 found s n b = record { sort = s; next = n; best = b }
+
+abbrev pub view : WalkedExpression → Found
+view w = found (number_of w.sort) w.next w.best
 
 abbrev pub walk : ℕ → Fault → Walked
 walk n b = record { next = n; best = b }
@@ -23,12 +33,12 @@ target_noted types marks x at best =
 
 -- over the type words of the variables, the number of arrays, the marks
 module _ (types : List ℕ) (arrays : ℕ) (marks : List ℕ) where
-  unfoldable pub expression_walked : Fault → Parse Expression → WalkedExpression
+  unfoldable pub expression_walked : Fault → Parse Expression → Found
   expression_walked best (got e n) = found (sort_in types e) n (least best (sort_faults types arrays marks e))
   expression_walked best (refused n p) = found 0 0 best
 
   -- an operand that has to have a sort
-  unfoldable pub operand_walked : ℕ → Fault → Parse Expression → WalkedExpression
+  unfoldable pub operand_walked : ℕ → Fault → Parse Expression → Found
   operand_walked want best (got e n) = found (sort_in types e) n (least best (operand_faults types arrays marks want e))
   operand_walked want best (refused n p) = found 0 0 best
 

@@ -3,39 +3,26 @@
 #![tactic(auto)]
 
 use definitions::Fault;
+use operators::Sort;
 
 mod expressions; // expressions
 mod leaves; // statements that hold no block
 mod statement_words; // statements that hold blocks, and blocks
+mod mark_table; // what the fors of a procedure make of each of its variables
 mod marks; // which variables are loop variables
 pub mod procedures; // a whole image
 
-// Sorts. What is no variable has an unknown one.
-const WORD: u32 = 0;
-
-const BOOLEAN: u32 = 1;
-
-const UNKNOWN: u32 = 2;
-
-// The marks of variables: no for names it; a loop variable outside the blocks of its fors, or inside one.
-const ORDINARY: u32 = 0;
-
-const OUTSIDE: u32 = 1;
-
-const INSIDE: u32 = 2;
-
-// The procedure whose body is checked: its number, its number of parameters, its result's type word.
+// The procedure whose body is checked: its number of parameters, its result's type word.
 #[derive(Clone, Copy)]
 pub struct Scope {
-    pub me: u32,
     pub parameters: u32,
     pub result: u32,
 }
 
-// What the walk of an expression gives: its sort, the place after it, the lowest fault so far.
+// What the walk of an expression gives: its sort, but for what names no variable; the place after it; the lowest fault so far.
 #[derive(Clone, Copy)]
 pub struct WalkedExpression {
-    pub sort: u32,
+    pub sort: Option<Sort>,
     pub next: usize,
     pub best: Fault,
 }
@@ -45,4 +32,19 @@ pub struct WalkedExpression {
 pub struct Walked {
     pub next: usize,
     pub best: Fault,
+}
+
+// An expression with which a statement ends.
+impl From<WalkedExpression> for Walked {
+    ghost use Rattle.std.specs.Prelude.{◌≡◌};
+    ghost use Rattle.sorts.specs.Walk.{walk};
+
+    ghost from_gives = { λ e w. w ≡ walk e.next e.best };
+
+    fn from(e: WalkedExpression) -> Walked {
+        Walked {
+            next: e.next,
+            best: e.best,
+        }
+    }
 }

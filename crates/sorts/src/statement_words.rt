@@ -5,133 +5,94 @@ ghost use Rattle.definitions.specs.Reading.{read_statement, read_block};
 ghost use Rattle.laws.specs.ImageIn.{procedures_in};
 ghost use Rattle.image_words.specs.Read.{StatementRead, BlockRead};
 ghost use Rattle.tables.specs.Table.{array_count_in, params_in};
-ghost use Rattle.tables.specs.Looking.{Listed};
 ghost use Rattle.sorts.specs.Walk.{statement_walked, block_walked};
 
-use super::expressions::check_operand;
+use super::expressions::Walk;
 use super::leaves::{check_assign, check_call, check_return, check_store, note_loop};
-use super::{BOOLEAN, INSIDE, Scope, WORD, Walked};
+use super::mark_table::{Mark, Marks};
+use super::{Scope, Walked};
 use definitions::Fault;
-use image_words::lists::{element, put, wide};
-use image_words::{op, ops, payload, target};
-use tables::SIZE;
+use image_words::ops::Op;
+use image_words::{ops, payload, target};
+use operators::Sort;
+use tables::programs::Procedure;
 
-// A block: its statements in order.
-#[cycle(blocks)]
-#[tactic(auto, using(image_words::specs::Rest::next_statement, image_words::specs::Rest::block_ready, image_words::specs::Rest::block_begins, crate::proofs::BlockRules::block_again, crate::proofs::BlockRules::block_more, crate::proofs::BlockRules::block_done))]
-pub fn check_block(
-    image: &[u32],
-    table: &[u32; SIZE],
-    types: &[u32],
-    marks: &mut [u32; 256],
-    scope: Scope,
-    at: usize,
-    level: u32,
-    best: Fault,
-) -> Walked
-    requires { BlockRead level (params_in table.now) scope.me image.now at × Listed image.now table.now scope.me }
-    ensures { (result ≡ block_walked (procedures_in image.now) types.now (array_count_in table.now) marks.old scope best
-        (read_block level (params_in table.now) scope.me image.now at)) × (marks.new ≡ marks.old) }
-{
-    let count = payload(image[at]);
-    let mut a = at + 1;
-    let mut found = best;
-    let mut k = 0;
-    while k < count {
-        let s = check_statement(image, table, types, marks, scope, a, level - 1, found);
-        a = s.next;
-        let lowest = s.best;
-        found = lowest;
-        k += 1;
-    }
-    Walked {
-        next: a,
-        best: found,
-    }
+// The body of a procedure, over which the marks change from block to block.
+#[derive(Clone, Copy)]
+pub struct Body<'a> {
+    pub procedure: Procedure<'a>,
+    pub scope: Scope,
 }
 
-// A statement, by its op.
-#[cycle(blocks)]
-#[tactic(auto, using(image_words::specs::StatementParts::is_call))]
-fn check_statement(
-    image: &[u32],
-    table: &[u32; SIZE],
-    types: &[u32],
-    marks: &mut [u32; 256],
-    scope: Scope,
-    at: usize,
-    level: u32,
-    best: Fault,
-) -> Walked
-    requires { StatementRead level (params_in table.now) scope.me image.now at × Listed image.now table.now scope.me }
-    ensures { (result ≡ statement_walked (procedures_in image.now) types.now (array_count_in table.now) marks.old scope at best
-        (read_statement level (params_in table.now) scope.me image.now at)) × (marks.new ≡ marks.old) }
-{
-    let o = op(image[at]);
-    if o == ops::ASSIGN {
-        return check_assign(image, table, types, marks, scope, at, level, best);
+impl Body<'_> {
+    // A block: its statements in order.
+    #[cycle(blocks)]
+    #[tactic(auto, using(image_words::specs::Rest::next_statement, image_words::specs::Rest::block_ready, image_words::specs::Rest::block_begins, crate::proofs::BlockRules::block_again, crate::proofs::BlockRules::block_more, crate::proofs::BlockRules::block_done))]
+    pub fn check_block(self, marks: &mut Marks, at: usize, level: u32, best: Fault) -> Walked
+        requires { BlockRead level (params_in self.procedure.program.table.now) self.procedure.me self.procedure.program.image.now at }
+        ensures { (result ≡ block_walked (procedures_in self.entry.procedure.program.image.now) self.entry.procedure.types.now (array_count_in self.entry.procedure.program.table.now) marks.old self.entry.scope best
+            (read_block level (params_in self.entry.procedure.program.table.now) self.entry.procedure.me self.entry.procedure.program.image.now at)) × (marks.new ≡ marks.old) }
+    {
+        let count = payload(self.procedure.program.image[at]);
+        let mut walked = Walked { next: at + 1, best };
+        for _ in 0..count {
+            walked = self.check_statement(marks, walked.next, level - 1, walked.best);
+        }
+        walked
     }
-    if o == ops::STORE {
-        return check_store(image, table, types, marks, scope, at, level, best);
-    }
-    if o == ops::IF {
-        return check_if(image, table, types, marks, scope, at, level, best);
-    }
-    if o == ops::FOR {
-        return check_for(image, table, types, marks, scope, at, level, best);
-    }
-    if o == ops::RETURN {
-        return check_return(image, table, types, marks, scope, at, level, best);
-    }
-    check_call(image, table, types, marks, scope, at, level, best)
-}
 
-#[cycle(blocks)]
-#[tactic(auto, using(image_words::specs::StatementParts::read_if, crate::proofs::BlockRules::then_fine, crate::proofs::BlockRules::else_fine, crate::proofs::BlockRules::if_returns))]
-fn check_if(
-    image: &[u32],
-    table: &[u32; SIZE],
-    types: &[u32],
-    marks: &mut [u32; 256],
-    scope: Scope,
-    at: usize,
-    level: u32,
-    best: Fault,
-) -> Walked
-    requires { StatementRead level (params_in table.now) scope.me image.now at × (op_of (get_or image.now at 0) ≡ 2) × Listed image.now table.now scope.me }
-    ensures { (result ≡ statement_walked (procedures_in image.now) types.now (array_count_in table.now) marks.old scope at best
-        (read_statement level (params_in table.now) scope.me image.now at)) × (marks.new ≡ marks.old) }
-{
-    let c = check_operand(image, table, types, marks, BOOLEAN, at + 1, level - 1, best);
-    let a = check_block(image, table, types, marks, scope, c.next, level - 1, c.best);
-    check_block(image, table, types, marks, scope, a.next, level - 1, a.best)
-}
+    // A statement, by its op.
+    #[cycle(blocks)]
+    #[tactic(auto, using(image_words::specs::StatementParts::op_there))]
+    fn check_statement(self, marks: &mut Marks, at: usize, level: u32, best: Fault) -> Walked
+        requires { StatementRead level (params_in self.procedure.program.table.now) self.procedure.me self.procedure.program.image.now at }
+        ensures { (result ≡ statement_walked (procedures_in self.entry.procedure.program.image.now) self.entry.procedure.types.now (array_count_in self.entry.procedure.program.table.now) marks.old self.entry.scope at best
+            (read_statement level (params_in self.entry.procedure.program.table.now) self.entry.procedure.me self.entry.procedure.program.image.now at)) × (marks.new ≡ marks.old) }
+    {
+        let walk = Walk { body: self, marks };
+        match ops::of(self.procedure.program.image[at]) {
+            Op::Assign => check_assign(walk, at, level, best),
+            Op::Store => check_store(walk, at, level, best),
+            Op::If => self.check_if(marks, at, level, best),
+            Op::For => self.check_for(marks, at, level, best),
+            Op::Return => check_return(walk, at, level, best),
+            Op::Call => check_call(walk, at, level, best),
+        }
+    }
 
-// A for: inside its block its variable may be read, and no other for is over it.
-#[cycle(blocks)]
-#[tactic(auto, using(image_words::specs::StatementParts::read_bounds, crate::proofs::ExpressionRules::second_fine, crate::proofs::BlockRules::body_fine, crate::proofs::BlockRules::for_returns, faults::specs::Parts::put_back))]
-fn check_for(
-    image: &[u32],
-    table: &[u32; SIZE],
-    types: &[u32],
-    marks: &mut [u32; 256],
-    scope: Scope,
-    at: usize,
-    level: u32,
-    best: Fault,
-) -> Walked
-    requires { StatementRead level (params_in table.now) scope.me image.now at × (op_of (get_or image.now at 0) ≡ 3) × Listed image.now table.now scope.me }
-    ensures { (result ≡ statement_walked (procedures_in image.now) types.now (array_count_in table.now) marks.old scope at best
-        (read_statement level (params_in table.now) scope.me image.now at)) × (marks.new ≡ marks.old) }
-{
-    let x = target(image[at]);
-    let noted = note_loop(types, marks, scope.parameters, x, at, best);
-    let f = check_operand(image, table, types, marks, WORD, at + 1, level - 1, noted);
-    let t = check_operand(image, table, types, marks, WORD, f.next, level - 1, f.best);
-    let i = wide(x);
-    let old = element(marks, i);
-    put(marks, i, INSIDE);
-    let b = check_block(image, table, types, marks, scope, t.next, level - 1, t.best);
-    put(marks, i, old);
-    b
+    #[cycle(blocks)]
+    #[tactic(auto, using(image_words::specs::StatementParts::read_if, crate::proofs::BlockRules::then_fine, crate::proofs::BlockRules::else_fine, crate::proofs::BlockRules::if_returns))]
+    fn check_if(self, marks: &mut Marks, at: usize, level: u32, best: Fault) -> Walked
+        requires { StatementRead level (params_in self.procedure.program.table.now) self.procedure.me self.procedure.program.image.now at × (op_of (get_or self.procedure.program.image.now at 0) ≡ 2) }
+        ensures { (result ≡ statement_walked (procedures_in self.entry.procedure.program.image.now) self.entry.procedure.types.now (array_count_in self.entry.procedure.program.table.now) marks.old self.entry.scope at best
+            (read_statement level (params_in self.entry.procedure.program.table.now) self.entry.procedure.me self.entry.procedure.program.image.now at)) × (marks.new ≡ marks.old) }
+    {
+        let inner = level - 1;
+        let walk = Walk { body: self, marks };
+        let c = walk.check_operand(Some(Sort::Boolean), at + 1, inner, best);
+        let a = self.check_block(marks, c.next, inner, c.best);
+        self.check_block(marks, a.next, inner, a.best)
+    }
+
+    // A for: inside its block its variable may be read, and no other for is over it. Its mark is put back behind the block: a copy of the marks
+    // for each for would stand on the stack once for each level.
+    #[cycle(blocks)]
+    #[tactic(auto, using(image_words::specs::StatementParts::read_bounds, crate::proofs::ExpressionRules::second_fine, crate::proofs::BlockRules::body_fine, crate::proofs::BlockRules::for_returns, faults::specs::Parts::put_back))]
+    fn check_for(self, marks: &mut Marks, at: usize, level: u32, best: Fault) -> Walked
+        requires { StatementRead level (params_in self.procedure.program.table.now) self.procedure.me self.procedure.program.image.now at × (op_of (get_or self.procedure.program.image.now at 0) ≡ 3) }
+        ensures { (result ≡ statement_walked (procedures_in self.entry.procedure.program.image.now) self.entry.procedure.types.now (array_count_in self.entry.procedure.program.table.now) marks.old self.entry.scope at best
+            (read_statement level (params_in self.entry.procedure.program.table.now) self.entry.procedure.me self.entry.procedure.program.image.now at)) × (marks.new ≡ marks.old) }
+    {
+        let x = target(self.procedure.program.image[at]);
+        let inner = level - 1;
+        let walk = Walk { body: self, marks };
+        let noted = note_loop(walk, x, at, best);
+        let from = walk.check_operand(Some(Sort::Word), at + 1, inner, noted);
+        let to = walk.check_operand(Some(Sort::Word), from.next, inner, from.best);
+        let before = marks.get(x);
+        marks.put(x, Mark::Inside);
+        let b = self.check_block(marks, to.next, inner, to.best);
+        marks.put(x, before);
+        b
+    }
 }

@@ -1,4 +1,4 @@
 pub mod Rules
 pub mod Blocks
-pub mod SmallRules
+pub mod Judging
 pub mod ProcedureRules

@@ -1,7 +1,7 @@
 -- The rank of the lowest procedure with a for whose bounds are not constants, among a procedure and those that it calls: 32 less its number, and 0 for
 -- none. It is all that has to be kept of which procedures are reached. Assumes nothing.
 use Prim.Native.Nat.{ℕ, zero, suc, ◌-◌, ◌≤◌, ◌<◌, max}
-use Rattle.std.specs.Prelude.{Bool, ◌||◌, ◌≡◌, ltb}
+use Rattle.std.specs.Prelude.{Bool, ◌||◌, ◌≡◌, ltb, Option, Some, None}
 use Rattle.std.proofs.Math.Bool.{true, false}
 use mathlib.Core.List.{List, [], ◌++◌, append_assoc, append-nil}
 use Rattle.std.proofs.Math.Path.{refl}
@@ -15,7 +15,50 @@ use Rattle.definitions.specs.Image.{Procedure, procedure_at}
 use Rattle.definitions.specs.StepBounds.{statement_calls, block_calls, reaches, variable_fors_in, callees_variable_fors}
 use Rattle.laws.specs.Tests.{false_true, or_left, or_right}
 use Rattle.laws.specs.StepBounds.{block_called}
-use Rattle.step_bounds.specs.Counting.{some, statement_rank, block_rank}
+use Rattle.step_bounds.specs.Counting.{some, lower, statement_lowest, block_lowest}
+
+-- the highest of the ranks that calls lead to, over the one that each callee leads to
+module _ (rank : ℕ → ℕ) where
+  unfoldable mutual
+    pub statement_rank : Statement → ℕ
+    statement_rank (assign x e) = 0
+    statement_rank (store a i e) = 0
+    statement_rank (conditional c a b) = max (block_rank a) (block_rank b)
+    statement_rank (loop x f t b) = block_rank b
+    statement_rank (return e) = 0
+    statement_rank (call f x es) = rank f
+
+    pub block_rank : Block → ℕ
+    block_rank done = 0
+    block_rank (sequence p s b) = max (statement_rank s) (block_rank b)
+
+-- ---- the rank of a procedure, and that of the lowest of some
+
+abbrev pub rank_of : Option ℕ → ℕ
+rank_of None = 0
+rank_of (Some g) = 32 - g
+
+pub rank_lower : (a b : Option ℕ) → rank_of (lower a b) ≡ max (rank_of a) (rank_of b)
+unfolding lower
+rank_lower None b = omega arith
+rank_lower (Some g) None = omega arith
+rank_lower (Some g) (Some h) = omega arith
+
+module _ (lowest : ℕ → Option ℕ) where
+  mutual
+    unfolding statement_rank block_rank statement_lowest block_lowest
+
+    rank_statement : (s : Statement) → rank_of (statement_lowest lowest s) ≡ statement_rank (λ g. rank_of (lowest g)) s
+    rank_statement (assign x e) = refl
+    rank_statement (store a i e) = refl
+    rank_statement (conditional k a b) = rw (rank_lower, rank_block a, rank_block b)
+    rank_statement (loop x f t b) = rank_block b
+    rank_statement (return e) = refl
+    rank_statement (call f x es) = refl
+
+    pub rank_block : (b : Block) → rank_of (block_lowest lowest b) ≡ block_rank (λ g. rank_of (lowest g)) b
+    rank_block done = refl
+    rank_block (sequence p s b) = rw (rank_lower, rank_statement s, rank_block b)
 
 -- the rank by what is known of each callee
 module _ (rank other : ℕ → ℕ) (h : (g : ℕ) → rank g ≡ other g) where

@@ -1,6 +1,6 @@
 // Costs in steps. A sum stops growing at the first number that no answer can hold: it is above the limit then, and stays so unless it is
 // multiplied by no pass.
-ghost use Rattle.std.specs.Prelude.{◌≡◌, ◌+◌, ◌*◌, ◌≤◌, max};
+ghost use Rattle.std.specs.Prelude.{◌≡◌, ◌+◌, ◌*◌, ◌≤◌};
 ghost use Rattle.step_bounds.specs.Counting.{capped};
 
 // The first number above 4,294,967,295.
@@ -8,40 +8,23 @@ pub const CEILING: u64 = 4294967296;
 
 // A cost, or the ceiling.
 fn cap(n: u64) -> u64
-    ensures { (result ≡ capped n) × (result ≤ 4294967296) }
+    ensures { (result ≡ capped n) × (result ≤ CEILING) }
 {
-    if n < CEILING {
-        return n;
-    }
-    CEILING
+    n.min(CEILING)
 }
 
 // Two costs together.
 pub fn sum(a: u64, b: u64) -> u64
-    requires { (a ≤ 4294967296) × (b ≤ 4294967296) }
-    ensures { (result ≡ capped (a + b)) × (result ≤ 4294967296) }
+    ensures { (result ≡ capped (a + b)) × (result ≤ CEILING) }
 {
-    cap(a + b)
+    cap(a.saturating_add(b))
 }
 
 // The passes of a for: each has a step of its own.
-#[tactic(auto, using(crate::proofs::SmallRules::product_fits))]
 pub fn repeated(passes: u32, body: u64) -> u64
-    requires { body ≤ 4294967296 }
-    ensures { (result ≡ capped (passes * (1 + body))) × (result ≤ 4294967296) }
+    ensures { (result ≡ capped (passes * (1 + body))) × (result ≤ CEILING) }
 {
-    let each = 1 + body;
-    let all = (passes as u64) * each;
+    let each = body.saturating_add(1);
+    let all = u64::from(passes).saturating_mul(each);
     cap(all)
-}
-
-// "the larger arm"
-pub fn larger(a: u64, b: u64) -> u64
-    requires { (a ≤ 4294967296) × (b ≤ 4294967296) }
-    ensures { (result ≡ max a b) × (result ≤ 4294967296) }
-{
-    if a < b {
-        return b;
-    }
-    a
 }

@@ -3,6 +3,7 @@
 
 use image_words::lists::{element, put, wide};
 
+pub mod programs; // an image that was read, with its table
 pub mod signatures; // what a call has to know of its procedure
 
 ghost use Rattle.std.specs.Prelude.{◌≡◌, ◌+◌, ◌<◌, get_or, set, length};
@@ -21,6 +22,8 @@ const BODIES: usize = 65;
 const PARAMETERS: usize = 97;
 
 pub const SIZE: usize = 129;
+
+pub type Table = [u32; SIZE];
 
 // The number of arrays.
 pub fn array_count(table: &[u32; SIZE]) -> usize

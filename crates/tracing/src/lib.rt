@@ -1,63 +1,81 @@
-// Trace entries in the lent bytes: two words each, straight into the slice, since it has no bound.
+// The trace of a run: entries of two words each, written straight into the lent bytes, since their number has no bound.
 #![tactic(auto)]
 
-ghost use Rattle.std.specs.Prelude.{◌≡◌, ◌<◌};
-ghost use Rattle.definitions.specs.Running.{emit};
-ghost use Rattle.tracing.specs.Log.{log, byte_trace};
-ghost use Rattle.tracing.specs.Answers.{evaluation, until};
-
 use image_words::made::word_with;
+use reasons::Reason;
 
-// The kinds of entries.
-pub const BRANCH: u32 = 1;
-
-pub const LOOP_FROM: u32 = 2;
-
-pub const LOOP_TO: u32 = 3;
-
-pub const INDEX: u32 = 4;
-
-pub const DIVIDEND: u32 = 5;
-
-pub const DIVISOR: u32 = 6;
-
-pub const CALLED: u32 = 7;
-
-pub const RETURNED: u32 = 8;
-
-pub const SHIFT_COUNT: u32 = 9;
-
-// What an evaluation comes to.
-#[derive(Clone, Copy)]
-pub enum Value {
-    // the value, the place after it, the trace bytes used
-    Got(u32, usize, usize),
-    // a stop: document 01's number and place, the trace bytes used
-    Stop(u32, usize, usize),
+// What an entry is of; its number stands in the entry's first word.
+#[derive(Clone, Copy, PartialEq, Eq)]
+pub enum Entry {
+    Branch = 1,
+    LoopFrom = 2,
+    LoopTo = 3,
+    Index = 4,
+    Dividend = 5,
+    Divisor = 6,
+    Called = 7,
+    Returned = 8,
+    ShiftCount = 9,
 }
 
-// Records an entry and hands its value on; stop 22 where there is no room for two words.
-#[tactic(auto, using(crate::proofs::Rules::note_short, crate::proofs::Rules::note_spent, crate::proofs::Rules::note_kept))]
-pub fn note(
-    trace: &mut [u8],
-    used: usize,
-    kind: u32,
-    place: usize,
-    value: u32,
-    next: usize,
-) -> Value
-    requires { (kind < 15) × (place < 268435456) }
-    ensures { evaluation result trace.new ≡ until next (emit byte_trace kind place value (log used trace.old)) }
-{
-    let n = trace.len();
-    if n < 8 {
-        return Value::Stop(22, place, used);
+// A stop: why, and the place of the word where.
+#[derive(Clone, Copy, PartialEq, Eq)]
+pub struct Stop {
+    pub reason: Reason,
+    pub place: usize,
+}
+
+// The lent bytes, and how many of them hold entries.
+#[derive(Drop)]
+pub struct Trace<'a> {
+    pub bytes: &'a mut [u8],
+    pub used: usize,
+}
+
+impl Entry {
+    ghost use Rattle.std.specs.Prelude.{◌≡◌};
+    ghost use Rattle.tracing.specs.Answers.{entry_number};
+
+    pub fn number(self) -> u32
+        ensures { result ≡ entry_number self }
+    {
+        self as u32
     }
-    // A sum on the left could pass the largest number.
-    if n - 8 < used {
-        return Value::Stop(22, place, used);
+}
+
+impl Trace<'_> {
+    ghost use Rattle.std.specs.Prelude.{◌≡◌, ◌<◌};
+    ghost use Rattle.definitions.specs.Running.{emit};
+    ghost use Rattle.tracing.specs.Log.{byte_trace};
+    ghost use Rattle.tracing.specs.Answers.{SameBytes, entry_number, evaluation, logged};
+
+    // Records an entry and hands its value on; a stop where there is no room for two words.
+    #[tactic(auto, using(crate::proofs::Rules::entry_small, crate::proofs::Rules::note_short, crate::proofs::Rules::note_spent, crate::proofs::Rules::note_kept))]
+    pub fn record(&mut self, entry: Entry, place: usize, value: u32) -> Result<u32, Stop>
+        requires { place < 268435456 }
+        ensures answer { evaluation result (logged self.new)
+            ≡ emit byte_trace (entry_number entry) place value (logged self.old) }
+        ensures same { SameBytes self.old self.new }
+    {
+        let n = self.bytes.len();
+        let full = Stop {
+            reason: Reason::TraceFull,
+            place,
+        };
+        if n < 8 {
+            return Err(full);
+        }
+        // A sum on the left could pass the largest number.
+        if n - 8 < self.used {
+            return Err(full);
+        }
+        words::put_word(
+            self.bytes,
+            self.used,
+            word_with(entry.number(), place as u32),
+        );
+        words::put_word(self.bytes, self.used + 4, value);
+        self.used += 8;
+        Ok(value)
     }
-    words::put_word(trace, used, word_with(kind, place as u32));
-    words::put_word(trace, used + 4, value);
-    Value::Got(value, next, used + 8)
 }

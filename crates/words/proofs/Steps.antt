@@ -2,21 +2,23 @@
 -- Assumes nothing.
 use mathlib.Core.Path.{◌≡◌, refl, sym, ap, ◌∙◌}
 use mathlib.Core.List.{List, [], ◌∷◌, ◌++◌}
-use Prim.Native.Nat.{ℕ, suc, ◌+◌, ◌*◌, ◌/◌, ◌%◌, ◌^◌, ◌≤◌, ◌<◌}
+use Prim.Native.Nat.{ℕ, ◌+◌, ◌*◌, ◌/◌, ◌%◌, ◌^◌, ◌≤◌, ◌<◌}
 use native.Mathlib.Numerals.{add-one}
 use native.Mathlib.Omega.{arith}
+use borrow.Rule.Slice.PartMut.{put_mid}
+use Rattle.std.specs.Int.{w32, to_be_bytes}
 use lib.ListN.{length, get_or, take, drop, set, length-append, length-drop}
 use lib.Seq.{sets, sets-eq, take-suc, take-suc-set, take_at, drop-append-add, drop-drop, length-take-le}
+use Rattle.std.proofs.lemmas.List.{append_assoc}
 use Rattle.definitions.specs.Bytes.{word_at, words_of, word4, bytes_of}
 use Rattle.laws.specs.WordsOfBytes.{length_words_of, get_d_words_of, length_bytes_of, bytes_of_append}
 
--- the four stores of a word
-pub stores : (l : List ℕ) (at w : ℕ)
-    → set (set (set (set l at (w / 2 ^ 24)) (at + 1) (w / 2 ^ 16 % 256)) (at + 2) (w / 2 ^ 8 % 256)) (at + 3) (w % 256) ≡ sets l at (word4 w)
-stores l at w =
-    let e1 : at + 1 ≡ suc at = omega arith in
-    let e2 : at + 2 ≡ suc (suc at) = omega arith in
-    let e3 : at + 3 ≡ suc (suc (suc at)) = omega arith in rw (e1, e2, e3)
+-- the bytes of a word, most significant first, written over four of a slice
+pub stores : (l : List ℕ) (at k w : ℕ) (bytes : List ℕ) → at + 4 ≤ length l → w < 2 ^ 32 → k ≡ 4 → bytes ≡ to_be_bytes w32 w
+    → put_mid at k l bytes ≡ sets l at (word4 w)
+stores l at k w bytes h f n e =
+    let top : w / 2 ^ 24 % 256 ≡ w / 2 ^ 24 = omega arith in
+    rw (n, e, top, drop-drop 4 at l) (sym (sets-eq (word4 w) l at (omega arith) ∙ append_assoc (take at l) (word4 w) (drop (at + 4) l)))
 
 pub copy_more : (from out : List ℕ) (i w : ℕ) → i < length from → i < length out → w ≡ get_or from i 0 → take i out ≡ take i from
     → take (i + 1) (set out i w) ≡ take (i + 1) from

@@ -3,12 +3,16 @@ use Rattle.compiler.proofs.Image.{locals_within, words_over, output_short, all_w
 use Rattle.compiler.proofs.compile_accepted.Goals as goal
 
 pub returns-then-largest_image-end : goal.returns-then-largest_image-end
-returns-then-largest_image-end c = words_over _ (locals_within _ _ c.requires.0 c.requires.1) _ _ _ c.emit_image-end.ensures _ c.largest_image.ensures c.if-largest_image-end.true
+returns-then-largest_image-end c =
+    words_over _ (locals_within _ _ c.args.program.known c.requires) _ _ _ c.write_image-end.ensures _ c.largest_image.ensures
+    c.if-largest_image-end.true _ c.number.ensures
 
 pub returns-then-out-end : goal.returns-then-out-end
-returns-then-out-end c = output_short _ (locals_within _ _ c.requires.0 c.requires.1) _ _ _ c.emit_image-end.ensures _ c.largest_image.ensures
-    c.if-largest_image-end.false _ c.emit_image-end.auto.out c.if-out-end.true
+returns-then-out-end c =
+    output_short _ (locals_within _ _ c.args.program.known c.requires) _ _ _ c.write_image-end.ensures _ c.largest_image.ensures
+    c.if-largest_image-end.false _ c.write_image-end.auto.words c.if-out-end.true _ c.number-then-out-end.ensures
 
 pub returns : goal.returns
-returns c = all_written _ (locals_within _ _ c.requires.0 c.requires.1) _ _ _ c.emit_image-end.ensures _ c.largest_image.ensures
-    c.if-largest_image-end.false _ c.emit_image-end.auto.out c.if-out-end.false
+returns c =
+    all_written _ (locals_within _ _ c.args.program.known c.requires) _ _ _ c.write_image-end.ensures _ c.largest_image.ensures
+    c.if-largest_image-end.false _ c.write_image-end.auto.words c.if-out-end.false

@@ -1,5 +1,5 @@
 -- An if stands below its statement, a statement below its block; the rest of a block gives what the whole block gives.
-use Rattle.std.proofs.Common.{◌-◌, ◌≡◌, ◌+◌, ◌*◌, ◌≤◌, true}
+use Rattle.std.proofs.Common.{◌-◌, ◌≡◌, ◌+◌, ◌*◌, true}
 use Rattle.definitions.specs.Reading.{read_block}
 use Rattle.laws.specs.Parses.{ok}
 use Rattle.image_words.specs.Read.{statements_at}
@@ -16,13 +16,9 @@ decreases-rc_if l = 3 * l.level
 abbrev pub decreases-rc_statement : goal.decreases-rc_statement
 decreases-rc_statement l = 3 * l.level + 1
 
-abbrev pub invariant-rc_block-loop-j : goal.invariant-rc_block-loop-j
-invariant-rc_block-loop-j l = record {
-  within : l.j ≤ l.count;
-  read : ok (statements_at (l.count - l.j) (l.level - 1) (params_in l.table) l.me l.image l.a) ≡ true;
-  same : passed_block l.types (arrays_in l.table) l.context.pc l.r (statements_at (l.count - l.j) (l.level - 1) (params_in l.table) l.me l.image l.a)
-      ≡ passed_block l.types (arrays_in l.table) l.context.pc l.context.rc (read_block l.level (params_in l.table) l.me l.image l.at);
+abbrev pub invariant-rc_block-loop : goal.invariant-rc_block-loop
+invariant-rc_block-loop l = record {
+  read : ok (statements_at (l.count - l.counter) (l.level - 1) (params_in l.body.table.now) l.body.me l.body.image.now l.a) ≡ true;
+  same : passed_block l.body.types.now (arrays_in l.body.table.now) l.context.pc l.r (statements_at (l.count - l.counter) (l.level - 1) (params_in l.body.table.now) l.body.me l.body.image.now l.a)
+      ≡ passed_block l.body.types.now (arrays_in l.body.table.now) l.context.pc l.context.rc (read_block l.level (params_in l.body.table.now) l.body.me l.body.image.now l.at);
 }
-
-abbrev pub decreases-rc_block-loop-j : goal.decreases-rc_block-loop-j
-decreases-rc_block-loop-j l = l.count - l.j

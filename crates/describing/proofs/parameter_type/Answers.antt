@@ -4,7 +4,7 @@ use Rattle.describing.proofs.parameter_type.Goals as goal
 
 pub returns-then-k-parameters : goal.returns-then-k-parameters
 returns-then-k-parameters c =
-    type_there _ _ _ c.requires _ c.parameters.ensures _ c.if-k-parameters.true _ _ c.variable_type.ensures c.payload.ensures.0
+    type_there _ _ _ c.args.program.known c.requires _ c.parameters.ensures _ c.if-k-parameters.true _ _ c.variable_type.ensures c.payload.ensures.0
 
 pub returns : goal.returns
-returns c = type_none _ _ _ c.requires _ c.parameters.ensures _ c.if-k-parameters.false
+returns c = type_none _ _ _ c.args.program.known c.requires _ c.parameters.ensures _ c.if-k-parameters.false

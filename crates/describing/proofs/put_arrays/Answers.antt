@@ -1,17 +1,14 @@
 -- One array more is written; at the end none is left.
-use Rattle.std.proofs.Common.{rules, arith}
+use Rattle.std.proofs.Common.{◌∙◌}
 use Rattle.describing.proofs.Rules.{arrays_done, arrays_more}
 use Rattle.describing.proofs.put_arrays.Goals as goal
 
-pub loop-out-preserved : goal.loop-out-preserved
-loop-out-preserved c = (
-  omega (arith, c.wide.ensures),
-  search rules,
-  arrays_more c.args.table.now c.requires c.loop-out.k c.loop-out.p _ _ c.loop-out.invariant.2 _ c.array_count-count.ensures.0
-      (omega (arith, c.wide.ensures)) _ c.array.ensures _ _ c.put_array-p.ensures,
+pub loop-a-preserved : goal.loop-a-preserved
+loop-a-preserved c = (
+  arrays_more _ _ c.args.program.known c.loop-a.a _ _ _ c.loop-a.invariant.0 _ (c.narrow-a-end.ensures ∙ c.array_count.ensures.0) c.loop-a-test.true
+      _ c.array.ensures _ _ c.put_array.ensures.0,
+  (cc),
 )
 
 pub returns : goal.returns
-returns c =
-    arrays_done c.args.table.now c.requires c.loop-out.k c.loop-out.p _ _ c.loop-out.invariant.2 _ c.array_count-count.ensures.0
-    (omega (arith, c.wide.ensures))
+returns c = (arrays_done _ _ c.args.program.known c.loop-a.a _ _ _ c.loop-a.invariant.0 _ (c.narrow-a-end.ensures ∙ c.array_count.ensures.0) c.loop-a-test.false, c.loop-a.invariant.1)

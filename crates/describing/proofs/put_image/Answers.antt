@@ -1,9 +1,9 @@
 -- The counts, the arrays and the procedures.
-use Rattle.describing.proofs.Rules.{arrays_full, image_on}
+use Rattle.describing.proofs.Rules.{image_on}
 use Rattle.describing.proofs.put_image.Goals as goal
 
-pub put_arrays-q-requires : goal.put_arrays-q-requires
-put_arrays-q-requires c = arrays_full _ _ c.requires
-
 pub returns : goal.returns
-returns c = image_on _ _ c.requires _ _ _ c.put_counts-p.ensures _ _ c.put_arrays-q.ensures _ _ c.put_procedures.ensures
+returns c = (
+  image_on _ _ c.args.program.known _ _ _ _ c.put_counts.ensures.0 _ _ c.put_arrays.ensures.0 _ _ c.put_procedures.ensures.0,
+  (cc),
+)

@@ -18,22 +18,22 @@ returns-then-image-gt-ENOUGH t c = c.compile_bytes.ensures ∙ first_compiled _ 
 
 pub returns-then-out-le-SHORT_RESULT : goal.returns-then-out-le-SHORT_RESULT
 returns-then-out-le-SHORT_RESULT t c =
-    c.compile_short.ensures
+    c.compile_sized.ensures
     ∙ attempt_equal c.args.image.now c.args.out.now (replicate 1024 0) (λ i. grind arith)
     (omega (arith, c.if-out-le-SHORT_RESULT.true, length-replicate {A = ℕ} 1024 0))
 
-pub returns-then-number-eq16 : goal.returns-then-number-eq16
-returns-then-number-eq16 t c =
-    c.compile_long-then-number-eq16.ensures
+pub returns-then-number : goal.returns-then-number
+returns-then-number t c =
+    c.compile_long-then-number.ensures
     ∙ ap (λ (x : List ℕ). compile_bytes c.args.image.now x)
-    (attempt_refused c.args.image.now c.args.out.now (replicate 1024 0) (λ i. grind arith) _ _ c.compile_short-2.ensures _ _
+    (attempt_refused c.args.image.now c.args.out.now (replicate 1024 0) (λ i. grind arith) _ _ c.compile_sized-2.ensures _ _
     c.in-Refused.is)
 
 pub returns-in-Written : goal.returns-in-Written
 returns-in-Written t c =
     not_16 c.args.image.now c.args.out.now (replicate 1024 0) (λ i. grind arith) _ _ c.in-Written.ensures (written_not _)
 
-pub returns-else-number-eq16 : goal.returns-else-number-eq16
-returns-else-number-eq16 t c =
+pub returns-else-number : goal.returns-else-number
+returns-else-number t c =
     not_16 c.args.image.now c.args.out.now (replicate 1024 0) (λ i. grind arith) _ _ c.in-Refused.ensures
-    (other_not _ _ c.if-number-eq16.false)
+    (other_not _ _ (rw c.number.ensures at c.if-number.false))

@@ -1,5 +1,5 @@
 -- An if and a for stand below their statement, a statement below its block; the rest of a block gives what the whole block gives.
-use Rattle.std.proofs.Common.{◌-◌, ◌≡◌, ◌+◌, ◌*◌, ◌≤◌, true}
+use Rattle.std.proofs.Common.{◌-◌, ◌≡◌, ◌+◌, ◌*◌, true}
 use Rattle.definitions.specs.Reading.{read_block}
 use Rattle.laws.specs.Parses.{ok}
 use Rattle.laws.specs.ImageIn.{procedures_in}
@@ -20,15 +20,11 @@ decreases-find_if l = 3 * l.level
 abbrev pub decreases-find_statement : goal.decreases-find_statement
 decreases-find_statement l = 3 * l.level + 1
 
-abbrev pub invariant-find_block-loop-j : goal.invariant-find_block-loop-j
-invariant-find_block-loop-j l = record {
-  within : l.j ≤ l.count;
-  read : ok (statements_at (l.count - l.j) (l.level - 1) (params_in l.table) l.scope.me l.image l.c.at) ≡ true;
-  same : found_block (procedures_in l.image) (arrays_in l.table) l.types l.scope l.c
-      (statements_at (l.count - l.j) (l.level - 1) (params_in l.table) l.scope.me l.image l.c.at)
-      ≡ found_block (procedures_in l.image) (arrays_in l.table) l.types l.scope l.initial.c
-      (read_block l.level (params_in l.table) l.scope.me l.image l.at);
+abbrev pub invariant-find_block-loop : goal.invariant-find_block-loop
+invariant-find_block-loop l = record {
+  read : ok (statements_at (l.count - l.counter) (l.level - 1) (params_in l.procedure.program.table.now) l.procedure.me l.procedure.program.image.now l.c.at) ≡ true;
+  same : found_block (procedures_in l.procedure.program.image.now) (arrays_in l.procedure.program.table.now) l.procedure.types.now l.pc l.c
+      (statements_at (l.count - l.counter) (l.level - 1) (params_in l.procedure.program.table.now) l.procedure.me l.procedure.program.image.now l.c.at)
+      ≡ found_block (procedures_in l.procedure.program.image.now) (arrays_in l.procedure.program.table.now) l.procedure.types.now l.pc l.initial.c
+      (read_block l.level (params_in l.procedure.program.table.now) l.procedure.me l.procedure.program.image.now l.fn.before.at);
 }
-
-abbrev pub decreases-find_block-loop-j : goal.decreases-find_block-loop-j
-decreases-find_block-loop-j l = l.count - l.j

@@ -1,20 +1,14 @@
--- One character more is written; at the end the listing is whole.
-use Rattle.std.proofs.Common.{rules, arith}
-use Rattle.printing.proofs.LineRules.{line_more, lines_whole, behind_more, lines_behind}
+-- One line more is written.
+use Rattle.std.proofs.Common.{refl}
+use Rattle.printing.specs.Text.{listing}
+use Rattle.printing.proofs.LineRules.{line_more}
 use Rattle.printing.proofs.put_listing.Goals as goal
 
-pub loop-j-preserved : goal.loop-j-preserved
-loop-j-preserved c = (
-  omega arith,
-  search rules,
-  line_more c.args.bytes.now c.args.n c.requires.1 c.loop-j.text c.loop-j.j _ _ (omega arith) (omega arith) c.word.ensures c.line_byte.ensures
-      c.loop-j.invariant.2,
-  behind_more c.loop-j.text c.args.text.now c.loop-j.j _ c.loop-j.invariant.3,
-)
+pub loop-j-init : goal.loop-j-init
+unfolding listing
+loop-j-init c = (refl, refl, refl)
 
-pub returns : goal.returns
-returns c = (
-  omega arith,
-  lines_whole c.args.bytes.now c.args.n c.requires.1 c.loop-j.text c.loop-j.j (omega arith) c.loop-j.invariant.0 c.loop-j.invariant.2,
-  lines_behind c.args.n c.loop-j.j c.loop-j.text c.args.text.now (omega arith) c.loop-j.invariant.0 c.loop-j.invariant.3,
-)
+pub loop-j-preserved : goal.loop-j-preserved
+loop-j-preserved c =
+    line_more c.args.text.now c.args.bytes.now c.args.n c.requires.1 c.requires.2 c.loop-j.text c.copy.new.text c.loop-j.j c.word.result c.loop-j-test.true
+    c.word.ensures (rw c.line_of-line.ensures at c.copy.ensures) c.loop-j.invariant

@@ -4,15 +4,19 @@ use Rattle.procedures.proofs.emit_procedure.Goals as goal
 
 pub head_of-requires : goal.head_of-requires
 head_of-requires c = (
-  types_few _ _ _ c.describe-source.result c.describe-source.ensures.0,
-  parameters_within _ _ _ c.describe-source.result c.describe-source.ensures.0,
-  few_parameters _ _ _ c.describe-source.result c.describe-source.ensures.0,
-  few_levels _ _ _ c.describe-source.result c.describe-source.ensures.0,
+  types_few _ _ _ _ c.args.procedure.listed c.requires.typed c.describe-source.result c.describe-source.ensures,
+  parameters_within _ _ _ _ c.args.procedure.listed c.requires.typed c.describe-source.result c.describe-source.ensures,
+  few_parameters _ _ _ _ c.args.procedure.listed c.requires.typed c.describe-source.result c.describe-source.ensures,
+  few_levels _ _ _ _ c.args.procedure.listed c.requires.typed c.describe-source.result c.describe-source.ensures,
 )
 
-pub emit_types-t-requires : goal.emit_types-t-requires
-emit_types-t-requires c = parameters_within _ _ _ c.describe-source.result c.describe-source.ensures.0
+pub emit_types-requires : goal.emit_types-requires
+emit_types-requires c =
+    parameters_within _ _ _ _ c.args.procedure.listed c.requires.typed c.describe-source.result c.describe-source.ensures
 
 pub returns : goal.returns
-returns c = procedure_on _ _ _ c.describe-source.result c.describe-source.ensures.0 _ _ _ _ _ _ _ _ _ _ c.describe-source.ensures.1 c.head_of.ensures
-    c.put_two-h.ensures c.emit_types-t.ensures c.emit_body.ensures
+returns c = (
+  procedure_on _ _ _ _ c.args.procedure.listed c.requires.typed c.describe-source.result c.describe-source.ensures _ _ _ _ _ _ _ _ _
+      c.head_of.ensures c.put_all.ensures.0 c.emit_types.ensures.0 c.emit_body.ensures.0,
+  (cc),
+)

@@ -5,4 +5,4 @@ use Rattle.ready.proofs.prepare.Goals as goal
 pub returns : goal.returns
 returns c =
     load_prepared _ _ _ _ c.read_image-n.ensures.2 _ c.admissible-whole.ensures c.read_image-n.ensures.0 c.read_image-n.ensures.3 _ _ _ _
-    c.judge_front.ensures.0 c.judge_front.ensures.1
+    c.judge.ensures.0 c.judge.ensures.1

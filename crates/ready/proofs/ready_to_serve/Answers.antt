@@ -6,7 +6,7 @@ use Rattle.ready.proofs.ready_to_serve.Goals as goal
 
 pub returns-then-image-eq0 : goal.returns-then-image-eq0
 returns-then-image-eq0 c = (
-  empty_answer c.args.image.now c.if-image-eq0.true c.args.count,
+  rw c.at.ensures (empty_answer c.args.image.now c.if-image-eq0.true c.args.count),
   empty_table c.args.image.now c.if-image-eq0.true c.args.table.now c.requires,
 )
 

@@ -1,12 +1,15 @@
 -- A procedure's body begins where the table says.
-use Rattle.step_bounds.proofs.ProcedureRules.{begun_fine, procedure_counted}
+use Rattle.std.proofs.Common.{rules}
+use Rattle.step_bounds.proofs.ProcedureRules.{body_fine, procedure_counted}
 use Rattle.step_bounds.proofs.count_procedure.Goals as goal
 
-pub count_block-requires : goal.count_block-requires
-count_block-requires c =
-    begun_fine _ _ _ c.requires.0 _ c.body.ensures.0 _ _ _ c.element.ensures c.form.ensures c.largest_level-level.ensures _ c.requires.1
+pub count_block-found-requires : goal.count_block-found-requires
+count_block-found-requires c = (
+  body_fine c.procedure-procedure.result.listed c.procedure-procedure.ensures.of _ _ _ c.body.ensures c.form.ensures c.largest_level.ensures,
+  search rules,
+)
 
 pub returns : goal.returns
 returns c =
-    procedure_counted _ _ _ c.requires.0 _ c.body.ensures.0 _ _ _ c.element.ensures c.form.ensures c.largest_level-level.ensures _ _ _
-    c.count_block.ensures
+    procedure_counted c.procedure-procedure.result.listed c.procedure-procedure.ensures.of _ _ _ c.body.ensures c.form.ensures c.largest_level.ensures
+    _ _ c.count_block-found.ensures

@@ -1,5 +1,5 @@
 -- The arguments that are left give what all of them give.
-use Rattle.std.proofs.Common.{◌-◌, ◌≡◌, ◌≤◌, get_or, true}
+use Rattle.std.proofs.Common.{◌-◌, ◌≡◌, get_or, true}
 use Rattle.laws.specs.Parses.{ok}
 use Rattle.image_words.specs.Read.{arguments_at}
 use Rattle.tables.specs.Table.{arrays_in, params_in}
@@ -10,12 +10,11 @@ use Rattle.labels.proofs.leaves.label_arguments.Given as goal
 
 abbrev pub invariant-loop-k : goal.invariant-loop-k
 invariant-loop-k l = record {
-  within : l.k ≤ l.count;
-  read : ok (arguments_at (l.count - l.k) l.level l.image l.a) ≡ true;
-  same : argued_all l.types (arrays_in l.table) (bounds_in l.bounds) l.context (procedure_in l.image l.f).types l.k l.found (arguments_at (l.count - l.k) l.level l.image l.a)
-      ≡ argued_all l.types (arrays_in l.table) (bounds_in l.bounds) l.context (procedure_in l.image l.f).types 0 l.fn.best
-      (arguments_at (get_or (params_in l.table) l.f 0) l.level l.image l.at);
+  read : ok (arguments_at (l.k-end - l.k) l.level l.around.procedure.program.image.now l.cursor.at) ≡ true;
+  same : argued_all l.around.procedure.types.now (arrays_in l.around.procedure.program.table.now) (bounds_in l.around.enclosing.now.loops) l.around.secret
+      (procedure_in l.around.procedure.program.image.now l.f).types l.k l.cursor.best
+      (arguments_at (l.k-end - l.k) l.level l.around.procedure.program.image.now l.cursor.at)
+      ≡ argued_all l.around.procedure.types.now (arrays_in l.around.procedure.program.table.now) (bounds_in l.around.enclosing.now.loops) l.around.secret
+      (procedure_in l.around.procedure.program.image.now l.f).types 0 l.fn.first.best
+      (arguments_at (get_or (params_in l.around.procedure.program.table.now) l.f 0) l.level l.around.procedure.program.image.now l.fn.first.at);
 }
-
-abbrev pub decreases-loop-k : goal.decreases-loop-k
-decreases-loop-k l = l.count - l.k

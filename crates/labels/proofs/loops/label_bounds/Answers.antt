@@ -1,10 +1,10 @@
 -- The second bound stands behind the first.
-use Rattle.labels.proofs.LoopRules.{to_fine}
+use Rattle.std.proofs.Common.{rules}
+use Rattle.labels.proofs.LoopRules.{to_fine, bounds_labelled}
 use Rattle.labels.proofs.loops.label_bounds.Goals as goal
 
 pub label_bound-to-requires : goal.label_bound-to-requires
-label_bound-to-requires c = to_fine _ _ _ _ _ _ _ _ _ c.requires c.label_bound-from.ensures
+label_bound-to-requires c = search (to_fine, rules)
 
-pub loop_inside-inside-requires : goal.loop_inside-inside-requires
-loop_inside-inside-requires c =
-    (c.requires.first.within, (to_fine _ _ _ _ _ _ _ _ _ c.requires c.label_bound-from.ensures).within)
+pub returns : goal.returns
+returns c = search (bounds_labelled, rules)

@@ -1,25 +1,24 @@
--- The types of a procedure's variables stand between its place and its body.
-use Rattle.std.proofs.Common.{arith}
-use Rattle.faults.specs.Bodies.{types_begin, types_end, body_fine}
-use Rattle.labels.proofs.ProcedureRules.{procedure_labelled}
+-- The body of a procedure was read at its form's largest level.
+use Rattle.std.proofs.Common.{◌≡◌, rules}
+use Rattle.definitions.specs.Image.{guarded}
+use Rattle.laws.specs.ImageIn.{image_in}
+use Rattle.tables.specs.Looking.{procedure_in}
+use Rattle.labels.proofs.ProcedureRules.{body_fine, procedure_labelled}
 use Rattle.labels.proofs.procedures.label_procedure.Goals as goal
 
-pub slice_bounds-types-count : goal.slice_bounds-types-count
-slice_bounds-types-count c = omega (arith, types_begin _ _ _ c.requires _ _ c.place.ensures.0 c.body-body.ensures.0)
-
-pub slice_bounds-types-start : goal.slice_bounds-types-start
-slice_bounds-types-start c = types_begin _ _ _ c.requires _ _ c.place.ensures.0 c.body-body.ensures.0
-
-pub slice_bounds-types-end : goal.slice_bounds-types-end
-slice_bounds-types-end c = types_end _ _ _ c.requires _ _ c.place.ensures.0 c.body-body.ensures.0
-
 pub label_block-b-requires : goal.label_block-b-requires
-label_block-b-requires c = (
-  body_fine _ _ _ c.requires _ c.body-body.ensures.0 _ _ _ c.element.ensures c.form-f.ensures c.largest_level-level.ensures,
-  c.requires,
-)
+label_block-b-requires c =
+    let form : c.form-form.result ≡ (image_in c.procedure-procedure.result.program.image.now).form = cc in
+    body_fine _ _ _ c.procedure-procedure.result.listed _ c.body.ensures _ _ form c.largest_level.ensures
 
 pub returns : goal.returns
 returns c =
-    procedure_labelled _ _ _ c.requires _ _ c.place.ensures.0 c.body-body.ensures.0 _ _ _ c.element.ensures c.form-f.ensures
-    c.largest_level-level.ensures _ _ _ _ c.result_type-result.ensures c.is_guarded-guarded.ensures c.label_block-b.ensures.0
+    let me : c.procedure-procedure.result.me ≡ c.args.me = cc in
+    let image : c.procedure-procedure.result.program.image.now ≡ c.args.program.image.now = cc in
+    let types : c.procedure-procedure.result.types.now ≡ (procedure_in c.procedure-procedure.result.program.image.now c.procedure-procedure.result.me).types = cc in
+    let form : c.form-form.result ≡ (image_in c.procedure-procedure.result.program.image.now).form = cc in
+    let result : c.result_type.result ≡ (procedure_in c.procedure-procedure.result.program.image.now c.procedure-procedure.result.me).result = cc in
+    let mode : c.is_guarded.result ≡ guarded (procedure_in c.procedure-procedure.result.program.image.now c.procedure-procedure.result.me) = cc in
+    rw (← image, ← me)
+    (procedure_labelled _ _ _ c.procedure-procedure.result.listed _ c.body.ensures _ _ form c.largest_level.ensures
+    _ _ _ _ _ _ types (search rules) result mode c.label_block-b.ensures.0)

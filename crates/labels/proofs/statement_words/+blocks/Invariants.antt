@@ -1,5 +1,5 @@
 -- An if and a for stand below their statement, a statement below its block; the rest of a block gives what the whole block gives.
-use Rattle.std.proofs.Common.{◌-◌, ◌≡◌, ◌+◌, ◌*◌, ◌≤◌, true}
+use Rattle.std.proofs.Common.{◌-◌, ◌≡◌, ◌+◌, ◌*◌, true}
 use Rattle.definitions.specs.Reading.{read_block}
 use Rattle.laws.specs.Parses.{ok}
 use Rattle.laws.specs.ImageIn.{procedures_in}
@@ -21,16 +21,14 @@ decreases-label_if l = 3 * l.level
 abbrev pub decreases-label_statement : goal.decreases-label_statement
 decreases-label_statement l = 3 * l.level + 1
 
-abbrev pub invariant-label_block-loop-j : goal.invariant-label_block-loop-j
-invariant-label_block-loop-j l = record {
-  within : l.j ≤ l.count;
-  outside : bounds_in l.bounds ≡ bounds_in l.initial.bounds;
-  read : ok (statements_at (l.count - l.j) (l.level - 1) (params_in l.table) l.scope.me l.image l.a) ≡ true;
-  same : walked_block (procedures_in l.image) (arrays_in l.table) l.types (bounds_in l.bounds) l.scope l.context.pc l.r l.found
-      (statements_at (l.count - l.j) (l.level - 1) (params_in l.table) l.scope.me l.image l.a)
-      ≡ walked_block (procedures_in l.image) (arrays_in l.table) l.types (bounds_in l.initial.bounds) l.scope l.context.pc l.context.rc l.fn.best
-      (read_block l.level (params_in l.table) l.scope.me l.image l.at);
+abbrev pub invariant-label_block-loop : goal.invariant-label_block-loop
+invariant-label_block-loop l = record {
+  outside : bounds_in l.enclosing.loops ≡ bounds_in l.initial.enclosing.loops;
+  read : ok (statements_at (l.count - l.counter) (l.level - 1) (params_in l.walk.procedure.program.table.now) l.walk.procedure.me l.walk.procedure.program.image.now l.a.at) ≡ true;
+  same : walked_block (procedures_in l.walk.procedure.program.image.now) (arrays_in l.walk.procedure.program.table.now) l.walk.procedure.types.now (bounds_in l.enclosing.loops)
+      l.walk.form l.walk.result l.context.pc l.r l.a.best
+      (statements_at (l.count - l.counter) (l.level - 1) (params_in l.walk.procedure.program.table.now) l.walk.procedure.me l.walk.procedure.program.image.now l.a.at)
+      ≡ walked_block (procedures_in l.walk.procedure.program.image.now) (arrays_in l.walk.procedure.program.table.now) l.walk.procedure.types.now (bounds_in l.initial.enclosing.loops)
+      l.walk.form l.walk.result l.context.pc l.context.rc l.fn.cursor.best
+      (read_block l.level (params_in l.walk.procedure.program.table.now) l.walk.procedure.me l.walk.procedure.program.image.now l.fn.cursor.at);
 }
-
-abbrev pub decreases-label_block-loop-j : goal.decreases-label_block-loop-j
-decreases-label_block-loop-j l = l.count - l.j

@@ -1,27 +1,18 @@
 -- `machine::runs::call_on`: refused twice, or run.
-use Rattle.std.proofs.Common.{[], rules, arith}
-use Rattle.tables.specs.Looking.{image_some}
+use Rattle.std.proofs.Common.{arith}
 use Rattle.machine.proofs.CallRules.{call_none, call_count, call_ready, call_ran}
 use Rattle.machine.proofs.runs.call_on.Goals as goal
 
-pub bounds-image-0 : goal.bounds-image-0
-bounds-image-0 c = image_some _ _ c.requires.1
+pub returns-then-procedures-call : goal.returns-then-procedures-call
+returns-then-procedures-call c = call_none _ _ _ _ _ _ _ (omega arith) c.number.ensures
 
-pub returns-then-procedures-f : goal.returns-then-procedures-f
-returns-then-procedures-f c = call_none _ _ c.requires.1 _ _ _ c.procedures.ensures _ _ _ c.if-procedures-f.true
-
-pub returns-then-arguments-wide : goal.returns-then-arguments-wide
-returns-then-arguments-wide c =
-    call_count _ _ c.requires.1 _ _ _ c.procedures.ensures _ _ _ c.if-procedures-f.false _ _ c.parameters.ensures c.wide.ensures.0 c.if-arguments-wide.true
+pub returns-then-call-wide : goal.returns-then-call-wide
+returns-then-call-wide c =
+    call_count _ _ _ _ _ _ _ c.args.program.known (omega arith) _ c.parameters.ensures c.wide.ensures.0 c.if-call-wide.true c.number-then-call-wide.ensures
 
 pub run-requires : goal.run-requires
-run-requires c = (
-  c.requires.0,
-  call_ready _ _ c.requires.1 _ [] _ c.procedures.ensures _ c.requires.2 c.if-procedures-f.false,
-  search rules,
-)
+run-requires c = (call_ready c.args.program.known (omega arith) c.requires, omega arith)
 
 pub returns : goal.returns
 returns c =
-    call_ran _ _ c.requires.1 _ _ _ c.procedures.ensures _ _ _ c.if-procedures-f.false _ _ c.parameters.ensures c.wide.ensures.0 (omega arith) _ _ _
-    c.run.ensures
+    call_ran _ _ _ _ _ _ 0 c.args.program.known (omega arith) _ c.parameters.ensures c.wide.ensures.0 c.if-call-wide.false _ _ _ c.run.ensures

@@ -1,33 +1,17 @@
--- What `read_procedures` returns, and what its loop keeps.
-use Rattle.std.proofs.Common.{arith, rules, ◌∙◌}
-use Rattle.reader.proofs.ImageRules.{procedures_done, procedures_kept, procedures_bad, procedures_bad_kept, place_small, progress_more}
+-- What the loop of `read_procedures` keeps of the tables.
+use Rattle.std.proofs.Common.{arith}
+use Rattle.reader.proofs.Steps.{none_passed}
+use Rattle.reader.proofs.ImageRules.{procedures_rules, progress_begin, progress_more, procedures_kept}
 use Rattle.reader.proofs.image.read_procedures.Goals as goal
 
-pub returns-in_default : goal.returns-in_default
-returns-in_default c = (procedures_bad _ _ _ _ _ _ _ _ _ c.loop-me.invariant.2 c.loop-me-test.true _ c.read_procedure-r.ensures.0 _ _ c.in_default.is, procedures_bad_kept _ _ _ _ _ _ _ _ _ c.loop-me.invariant.2 c.loop-me-test.true _ c.read_procedure-r.ensures.0 _ _ c.in_default.is _ _)
-
-pub overflow_add-body : goal.overflow_add-body
-overflow_add-body c = omega (arith, c.requires.2, place_small _ _ _ _ _ _ _ _ _ c.loop-me.invariant.2 c.loop-me-test.true _ c.read_procedure-r.ensures.0 _ _ c.in-At.is c.requires.2)
-
-pub overflow_add-body-in-loop-me : goal.overflow_add-body-in-loop-me
-overflow_add-body-in-loop-me c = omega (arith, c.requires.2, place_small _ _ _ _ _ _ _ _ _ c.loop-me.invariant.2 c.loop-me-test.true _ c.read_procedure-r.ensures.0 _ _ c.in-At.is c.requires.2)
-
-pub overflow_add-body-in-loop-me-2 : goal.overflow_add-body-in-loop-me-2
-overflow_add-body-in-loop-me-2 c = omega (arith, c.requires.2, place_small _ _ _ _ _ _ _ _ _ c.loop-me.invariant.2 c.loop-me-test.true _ c.read_procedure-r.ensures.0 _ _ c.in-At.is c.requires.2)
-
-pub narrow-requires : goal.narrow-requires
-narrow-requires c = omega (arith, c.requires.2, place_small _ _ _ _ _ _ _ _ _ c.loop-me.invariant.2 c.loop-me-test.true _ c.read_procedure-r.ensures.0 _ _ c.in-At.is c.requires.2)
-
-pub narrow-requires-in-loop-me : goal.narrow-requires-in-loop-me
-narrow-requires-in-loop-me c = omega (arith, c.requires.2, place_small _ _ _ _ _ _ _ _ _ c.loop-me.invariant.2 c.loop-me-test.true _ c.read_procedure-r.ensures.0 _ _ c.in-At.is c.requires.2)
+pub loop-me-init : goal.loop-me-init
+loop-me-init c = (progress_begin _ _ _ _ _ _ c.requires.2 c.requires.3, rw none_passed)
 
 pub loop-me-preserved : goal.loop-me-preserved
-loop-me-preserved c = (
-  omega arith,
-  search rules,
-  progress_more _ _ _ _ _ _ _ _ _ c.loop-me.invariant.2 c.loop-me-test.true _ c.read_procedure-r.ensures.0 _ _ c.in-At.is _ _ _ _ _ c.read_procedure-r.ensures.1 c.requires.1 c.narrow.ensures _ (c.wide.ensures.0 ∙ c.variables.ensures.0)
-      c.narrow-in-loop-me.ensures c.parameters.ensures.0 c.add_procedure.ensures,
-)
+loop-me-preserved c =
+    progress_more _ _ _ _ _ _ _ _ _ c.loop-me.invariant.0 c.loop-me-test.true (grind (arith, procedures_rules)) _ c.in_ok-next.ensures.read _ _
+    c.variables.ensures.0 c.parameters.ensures.0 _ c.add_procedure.ensures _ c.read_procedure.ensures.sound _ c.loop-me.invariant.1
 
-pub returns : goal.returns
-returns c = (procedures_done _ _ _ _ _ _ _ _ _ c.loop-me.invariant.2 c.loop-me-test.false, procedures_kept _ _ _ _ _ _ _ _ _ c.loop-me.invariant.2 c.loop-me-test.false)
+pub returns-clause-left : goal.returns-clause-left
+returns-clause-left c =
+    rw (← c.form-form.ensures, ← c.procedures-count.ensures) (procedures_kept _ _ _ _ _ _ _ _ _ c.loop-me.invariant.0 (omega arith))

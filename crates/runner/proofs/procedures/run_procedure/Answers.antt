@@ -1,9 +1,12 @@
--- The run over bytes is the run over trace words.
-use Rattle.runner.proofs.RunRules.{run_stopped, run_gave}
+-- The run over bytes is the run over trace words; the cells and the bytes are those that the run left.
+use Rattle.std.proofs.Common.{sym, ap, ◌∙◌}
+use Rattle.tracing.specs.declared.Trace.{Trace}
+use Rattle.runner.proofs.RunRules.{run_ended}
 use Rattle.runner.proofs.procedures.run_procedure.Goals as goal
 
-pub returns-in-Halt : goal.returns-in-Halt
-returns-in-Halt c = run_stopped _ _ c.args.values.now _ _ c.requires.listed _ _ _ _ _ c.run_body.ensures _ _ _ _ c.in-Halt.is
-
-pub returns-in-Gave : goal.returns-in-Gave
-returns-in-Gave c = run_gave _ _ c.args.values.now _ _ c.requires.listed _ _ _ _ _ c.run_body.ensures _ _ _ c.in-Gave.is
+pub returns : goal.returns
+returns c =
+    let same = c.run_body-outcome.ensures.same in
+    let trace = c.written-3-1.given.1 (sym same.1) in
+    run_ended _ _ _ _ _ c.requires.listed _ _ _ _ c.run_body-outcome.ensures.answer _ _ _ (c.cells-1.given.1 (sym same.0)) trace
+    (c.trace-1.given.1.1 (sym (ap (λ (t : Trace). t.bytes.ghost_name) trace ∙ same.2)))

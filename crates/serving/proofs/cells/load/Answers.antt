@@ -6,26 +6,23 @@ use Rattle.definitions.specs.Requests.{ready_to_load}
 use Rattle.serving.proofs.Own.{Own, load_own}
 use Rattle.serving.proofs.Rules.{load_not, back_asks, load_done}
 use Rattle.serving.proofs.cells.load.Goals as goal
-use Rattle.serving.proofs.cells.load.Goals.{In-Cells}
+use Rattle.serving.proofs.cells.load.Goals.{In-Ok}
 
-own : (c : In-Cells)
-    → Own c.args.image.now c.args.cells.now c.ready_to_load.new.table (ready_to_load (whole_words c.args.image.now) (words_of c.args.image.now)) c.in-Cells.own
-own c = load_own c.args.image.now c.args.cells.now _ _ _ c.in-Cells.is c.ready_to_load.ensures.0 c.ready_to_load.ensures.1
+own : (c : In-Ok)
+    → Own c.args.image.now c.args.cells.now c.ready_to_load.new.table (ready_to_load (whole_words c.args.image.now) (words_of c.args.image.now)) c.in-Ok.own
+own c = load_own c.args.image.now c.args.cells.now _ _ _ c.in-Ok.is c.ready_to_load.ensures.0 c.ready_to_load.ensures.1
 
 pub lent-requires : goal.lent-requires
-lent-requires c = ((own c).few, (own c).enough)
-
-pub load-requires : goal.load-requires
-load-requires c = let o = own (goal.at.load-requires c).In-Cells in rw c.lent.ensures.1 o.few
+lent-requires c = (omega arith, ((own c).few, (own c).enough))
 
 pub give_back-requires : goal.give_back-requires
-give_back-requires c = let o = own (goal.at.give_back-requires c).In-Cells in back_asks _ _ _ _ _ c.lent.ensures.1 c.load.ensures.kept o.few o.enough
+give_back-requires c = let o = own (goal.at.give_back-requires c).In-Ok in (omega arith, back_asks _ _ c.lent.result _ c.lent.ensures.1 c.load.ensures.kept o.enough)
 
-pub returns-in-Unready : goal.returns-in-Unready
-returns-in-Unready c =
-    load_not c.args.image.now c.args.cells.now (λ i. omega (arith, c.type_inv.cells i)) _ _ _ c.in-Unready.is c.ready_to_load.ensures.0
+pub returns-in-Err : goal.returns-in-Err
+returns-in-Err c =
+    load_not c.args.image.now c.args.cells.now (λ i. omega (arith, c.type_inv.cells i)) _ _ c.in-Err.is c.ready_to_load.ensures.0
 
-pub returns-in-Cells : goal.returns-in-Cells
-returns-in-Cells c =
+pub returns-in-Ok : goal.returns-in-Ok
+returns-in-Ok c =
     load_done c.args.image.now c.args.cells.now _ (λ i. grind arith) _ _ c.lent.ensures.0 c.lent.ensures.1 _ _ _ c.give_back.ensures.0 c.give_back.ensures.1
-    (own (goal.at.returns-in-Cells c).In-Cells) c.load.ensures
+    (own (goal.at.returns-in-Ok c).In-Ok) c.load.ensures

@@ -1,9 +1,9 @@
 -- A call names a procedure before its own.
-use Rattle.faults.specs.Parts.{call_listed, call_reads}
+use Rattle.faults.specs.Parts.{call_listed}
 use Rattle.sorts.proofs.leaves.check_call.Goals as goal
 
 pub result_type-requires : goal.result_type-requires
-result_type-requires c = call_listed _ _ _ _ _ c.requires.0.read c.requires.1 _ c.called-f.ensures.0 _ c.requires.2
+result_type-requires c = (call_listed _ _ _ _ _ c.requires.0.read c.requires.1 _ c.called-f.ensures.0 _ c.args.walk.body.procedure.listed).number
 
-pub check_arguments-requires : goal.check_arguments-requires
-check_arguments-requires c = (call_listed _ _ _ _ _ c.requires.0.read c.requires.1 _ c.called-f.ensures.0 _ c.requires.2, call_reads _ _ _ _ _ c.requires.0.read c.requires.1 _ c.called-f.ensures.0)
+pub procedure-requires : goal.procedure-requires
+procedure-requires c = (call_listed _ _ _ _ _ c.requires.0.read c.requires.1 _ c.called-f.ensures.0 _ c.args.walk.body.procedure.listed).number

@@ -14,11 +14,11 @@ decreases-mark_block l = 2 * l.level
 abbrev pub decreases-mark_statement : goal.decreases-mark_statement
 decreases-mark_statement l = 2 * l.level + 1
 
-abbrev pub invariant-mark_block-loop-k : goal.invariant-mark_block-loop-k
-invariant-mark_block-loop-k l =
-    (l.k ≤ l.count) × (ok (statements_at (l.count - l.k) (l.level - 1) (params_in l.table) l.me l.image l.a) ≡ true)
-    × (block_marks (statements_at (l.count - l.k) (l.level - 1) (params_in l.table) l.me l.image l.a) l.marks
-    ≡ block_marks (read_block l.level (params_in l.table) l.me l.image l.at) l.initial.marks)
-
-abbrev pub decreases-mark_block-loop-k : goal.decreases-mark_block-loop-k
-decreases-mark_block-loop-k l = l.count - l.k
+abbrev pub invariant-mark_block-loop : goal.invariant-mark_block-loop
+invariant-mark_block-loop l =
+    let table = params_in l.procedure.program.table.now in
+    let me = l.procedure.me in
+    let image = l.procedure.program.image.now in
+    (l.counter ≤ l.count) × (ok (statements_at (l.count - l.counter) (l.level - 1) table me image l.a) ≡ true)
+    × (block_marks (statements_at (l.count - l.counter) (l.level - 1) table me image l.a) l.marks
+    ≡ block_marks (read_block l.level table me image l.at) l.initial.marks)

@@ -1,7 +1,0 @@
--- The word and the index join.
-use Rattle.std.proofs.Common.{rules}
-use Rattle.masking.proofs.Rules.{index_on}
-use Rattle.masking.proofs.emit_store_index.Goals as goal
-
-pub returns : goal.returns
-returns c = search (index_on, rules)
