@@ -12,39 +12,39 @@ use Rattle.labels.specs.Walk.{labelled}
 use Rattle.labels.specs.Blocks.{walked, walked_block}
 use Rattle.labels.specs.declared.Cursor.{Cursor}
 use Rattle.labels.specs.declared.Around.{Around}
-use Rattle.labels.specs.declared.Walk.{Walk}
+use Rattle.labels.specs.declared.Scope.{Scope}
 use Rattle.labels.specs.declared.Labelled.{Labelled}
 use Rattle.labels.specs.declared.Walked.{Walked}
 
 -- an expression
 abbrev pub expression_at : Around → Cursor → ℕ → Labelled
 expression_at a c level =
-    labelled a.procedure.types.now (arrays_in a.procedure.program.table.now) (bounds_in a.enclosing.now.loops) a.secret c.best
-    (read_expression level a.procedure.program.image.now c.at)
+    labelled a.body.types.now (arrays_in a.body.table.now) (bounds_in a.enclosing.now.loops) a.secret c.best
+    (read_expression level a.body.image.now c.at)
 
 -- a statement, inside some fors, in a context
-abbrev pub statement_at : Walk → List ConstantLoop → Context → Cursor → ℕ → Walked
-statement_at w bounds context c level =
-    walked (procedures_in w.procedure.program.image.now) (arrays_in w.procedure.program.table.now) w.procedure.types.now bounds w.form w.result
+abbrev pub statement_at : Scope → List ConstantLoop → Context → Cursor → ℕ → Walked
+statement_at s bounds context c level =
+    walked (procedures_in s.body.image.now) (arrays_in s.body.table.now) s.body.types.now bounds s.form s.result
     context.pc context.rc c.at c.best
-    (read_statement level (params_in w.procedure.program.table.now) w.procedure.me w.procedure.program.image.now c.at)
+    (read_statement level (params_in s.body.table.now) s.body.me s.body.image.now c.at)
 
 -- a block
-abbrev pub block_at : Walk → List ConstantLoop → Context → Cursor → ℕ → Walked
-block_at w bounds context c level =
-    walked_block (procedures_in w.procedure.program.image.now) (arrays_in w.procedure.program.table.now) w.procedure.types.now bounds w.form w.result
+abbrev pub block_at : Scope → List ConstantLoop → Context → Cursor → ℕ → Walked
+block_at s bounds context c level =
+    walked_block (procedures_in s.body.image.now) (arrays_in s.body.table.now) s.body.types.now bounds s.form s.result
     context.pc context.rc c.best
-    (read_block level (params_in w.procedure.program.table.now) w.procedure.me w.procedure.program.image.now c.at)
+    (read_block level (params_in s.body.table.now) s.body.me s.body.image.now c.at)
 
 -- what a walk may take for granted of the part at its cursor, and the kind or the op of its word
 abbrev pub ExpressionHere : Around → Cursor → ℕ → Type 0
-ExpressionHere a c level = ExpressionRead level a.procedure.program.image.now c.at
+ExpressionHere a c level = ExpressionRead level a.body.image.now c.at
 
 abbrev pub kind_here : Around → Cursor → ℕ
-kind_here a c = kind_of (get_or a.procedure.program.image.now c.at 0)
+kind_here a c = kind_of (get_or a.body.image.now c.at 0)
 
-abbrev pub StatementHere : Walk → Cursor → ℕ → Type 0
-StatementHere w c level = StatementRead level (params_in w.procedure.program.table.now) w.procedure.me w.procedure.program.image.now c.at
+abbrev pub StatementHere : Scope → Cursor → ℕ → Type 0
+StatementHere s c level = StatementRead level (params_in s.body.table.now) s.body.me s.body.image.now c.at
 
-abbrev pub op_here : Walk → Cursor → ℕ
-op_here w c = op_of (get_or w.procedure.program.image.now c.at 0)
+abbrev pub op_here : Scope → Cursor → ℕ
+op_here s c = op_of (get_or s.body.image.now c.at 0)

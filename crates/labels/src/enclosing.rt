@@ -16,9 +16,10 @@ const UNBOUNDED: ConstantLoop = ConstantLoop {
     upper: u32::MAX,
 };
 
+// (Not of `Option<ConstantLoop>`: each procedure fills the array, and the tags would be written one by one.)
 #[derive(Clone, Copy)]
 pub struct Enclosing {
-    pub loops: [Option<ConstantLoop>; VARIABLES],
+    pub loops: [ConstantLoop; VARIABLES],
 }
 
 impl Enclosing {
@@ -28,7 +29,7 @@ impl Enclosing {
         ensures { bounds_in result.loops ≡ replicate 256 unbounded }
     {
         Enclosing {
-            loops: [None; VARIABLES],
+            loops: [UNBOUNDED; VARIABLES],
         }
     }
 
@@ -37,11 +38,7 @@ impl Enclosing {
     pub fn around(&self, x: u32) -> ConstantLoop
         ensures { result ≡ get_or (bounds_in self.now.loops) x unbounded }
     {
-        self.loops
-            .get(wide(x))
-            .copied()
-            .flatten()
-            .unwrap_or(UNBOUNDED)
+        self.loops.get(wide(x)).copied().unwrap_or(UNBOUNDED)
     }
 
     // Puts a for around a variable, or none, and tells what was around it. (Not by `get_mut`, whose contract tells the length of the list and no
@@ -52,11 +49,11 @@ impl Enclosing {
         ensures after { bounds_in self.new.loops ≡ set (bounds_in self.old.loops) x (unwrap_or inside unbounded) }
     {
         let i = wide(x);
-        let loops: &mut [Option<ConstantLoop>] = &mut self.loops;
+        let loops: &mut [ConstantLoop] = &mut self.loops;
         if i < loops.len() {
             let before = loops[i];
-            loops[i] = inside;
-            return before;
+            loops[i] = inside.unwrap_or(UNBOUNDED);
+            return Some(before);
         }
         None
     }

@@ -21,16 +21,15 @@ use reasons::Reason;
 // The faults of an index at a place, behind which the cursor stands: it has to be public, and bounded by the array's length in a secret context.
 #[tactic(auto, using(crate::proofs::OperandRules::index_noted_lem))]
 pub fn note_index(around: Around<'_>, a: u32, at: usize, index: Labelled) -> Cursor
-    requires { at < length around.procedure.program.image.now }
-    ensures { result ≡ ending index.cursor.at (index_noted around.entry.procedure.program.image.now (arrays_in around.entry.procedure.program.table.now)
+    requires { at < length around.body.image.now }
+    ensures { result ≡ ending index.cursor.at (index_noted around.entry.body.image.now (arrays_in around.entry.body.table.now)
         (bounds_in around.entry.enclosing.now.loops) around.entry.secret a at index.secret index.cursor.best) }
 {
-    let program = around.procedure.program;
     let public = index
         .cursor
         .noted(index.secret, Reason::SecretWherePublic, at);
-    let size = array_length(tables::array(program.table, a));
-    let bounded = bounded_at(program.image, around.enclosing, size, at);
+    let size = array_length(tables::array(around.body.table, a));
+    let bounded = bounded_at(around.body.image, around.enclosing, size, at);
     public.noted(around.secret & !bounded, Reason::Unbounded, at)
 }
 
@@ -44,12 +43,12 @@ fn note_operator(
     left: Labelled,
     right: Labelled,
 ) -> Cursor
-    requires { left.cursor.at < length around.procedure.program.image.now }
-    ensures { result ≡ ending right.cursor.at (operator_noted around.entry.procedure.program.image.now (publics_number publics) around.entry.secret at left.secret
+    requires { left.cursor.at < length around.body.image.now }
+    ensures { result ≡ ending right.cursor.at (operator_noted around.entry.body.image.now (publics_number publics) around.entry.secret at left.secret
         left.cursor.at right.secret right.cursor.best) }
 {
     let place = left.cursor.at;
-    let divisor = constant_at(around.procedure.program.image, place).unwrap_or(0);
+    let divisor = constant_at(around.body.image, place).unwrap_or(0);
     let both = publics == PublicOperands::Both;
     let some = publics != PublicOperands::Neither;
     let first = right
@@ -67,7 +66,7 @@ pub fn label_expression(around: Around<'_>, cursor: Cursor, level: u32) -> Label
     requires { ExpressionHere around cursor level }
     ensures { result ≡ expression_at around.entry cursor level }
 {
-    let w = around.procedure.program.image[cursor.at];
+    let w = around.body.image[cursor.at];
     let operand = Cursor {
         at: cursor.at + 1,
         ..cursor
@@ -85,7 +84,7 @@ pub fn label_expression(around: Around<'_>, cursor: Cursor, level: u32) -> Label
             },
         },
         Kind::Variable => Labelled {
-            secret: secret_variable(around.procedure.types, payload(w)),
+            secret: secret_variable(around.body.types, payload(w)),
             cursor: operand,
         },
         Kind::Cell => label_cell(around, cursor, level),
@@ -101,7 +100,7 @@ fn label_cell(around: Around<'_>, cursor: Cursor, level: u32) -> Labelled
     requires { ExpressionHere around cursor level × (kind_here around cursor ≡ 11) }
     ensures { result ≡ expression_at around.entry cursor level }
 {
-    let a = payload(around.procedure.program.image[cursor.at]);
+    let a = payload(around.body.image[cursor.at]);
     let operand = Cursor {
         at: cursor.at + 1,
         ..cursor
@@ -109,7 +108,7 @@ fn label_cell(around: Around<'_>, cursor: Cursor, level: u32) -> Labelled
     let i = label_expression(around, operand, level - 1);
     let judged = note_index(around, a, operand.at, i);
     Labelled {
-        secret: secret_array(around.procedure.program.table, a) | i.secret,
+        secret: secret_array(around.body.table, a) | i.secret,
         cursor: judged,
     }
 }
@@ -120,7 +119,7 @@ fn label_binary(around: Around<'_>, cursor: Cursor, level: u32) -> Labelled
     requires { ExpressionHere around cursor level × (kind_here around cursor ≡ 13) }
     ensures { result ≡ expression_at around.entry cursor level }
 {
-    let operator = Operator::of(payload(around.procedure.program.image[cursor.at]));
+    let operator = Operator::of(payload(around.body.image[cursor.at]));
     let operands = Cursor {
         at: cursor.at + 1,
         ..cursor
@@ -156,11 +155,11 @@ fn label_select(around: Around<'_>, cursor: Cursor, level: u32) -> Labelled
 #[cycle(parts)]
 #[tactic(auto, using(crate::proofs::ExpressionRules::fine, crate::proofs::ExpressionRules::labels))]
 fn label_two(around: Around<'_>, cursor: Cursor, level: u32) -> Labelled
-    requires { PairRead level around.procedure.program.image.now cursor.at }
-    ensures { result ≡ labelled_two around.entry.procedure.types.now (arrays_in around.entry.procedure.program.table.now)
+    requires { PairRead level around.body.image.now cursor.at }
+    ensures { result ≡ labelled_two around.entry.body.types.now (arrays_in around.entry.body.table.now)
         (bounds_in around.entry.enclosing.now.loops) around.entry.secret cursor.best
-        (read_expression level around.entry.procedure.program.image.now cursor.at)
-        (read_expression level around.entry.procedure.program.image.now (end_of (read_expression level around.entry.procedure.program.image.now cursor.at))) }
+        (read_expression level around.entry.body.image.now cursor.at)
+        (read_expression level around.entry.body.image.now (end_of (read_expression level around.entry.body.image.now cursor.at))) }
 {
     let e = label_expression(around, cursor, level);
     let f = label_expression(around, e.cursor, level);

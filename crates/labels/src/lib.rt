@@ -5,14 +5,15 @@
 ghost use Rattle.std.specs.Prelude.{◌≡◌, ◌≤◌};
 ghost use Rattle.definitions.specs.Faults.{least, fault_if};
 ghost use Rattle.reasons.specs.Numbers.{reason_number};
+ghost use Rattle.tables.specs.Looking.{Listed};
 ghost use Rattle.labels.specs.Cursors.{ending};
 
+use contexts::Body;
 use definitions::{ConstantLoop, Fault};
 use enclosing::Enclosing;
 use reasons::Reason;
-use tables::programs::Procedure;
 
-mod enclosing; // the enclosing fors with constant bounds
+pub mod enclosing; // the enclosing fors with constant bounds
 pub mod operands; // what an operand's words say
 mod sums; // a sum as an index
 mod expressions; // expressions
@@ -41,18 +42,25 @@ impl Cursor {
     }
 }
 
-// What a statement is judged by: the procedure whose body it stands in, its image's form, its result's type word.
+// What a statement is judged by: the body that it stands in, its image's form, its result's type word.
 #[derive(Clone, Copy)]
-pub struct Walk<'a> {
-    pub procedure: Procedure<'a>,
+pub struct Scope<'a> {
+    pub body: Body<'a>,
     pub form: u32,
     pub result: u32,
 }
 
-// What an expression is judged by: its procedure, the enclosing fors, whether its context is secret.
+// What a block is judged by, and a call: the body is that of a procedure of an image that was read.
+#[derive(Clone, Copy)]
+pub struct Walk<'a> {
+    pub scope: Scope<'a>,
+    ghost listed: { Listed scope.body.image.now scope.body.table.now scope.body.me },
+}
+
+// What an expression is judged by: the body that it stands in, the enclosing fors, whether its context is secret.
 #[derive(Clone, Copy)]
 pub struct Around<'a> {
-    pub procedure: Procedure<'a>,
+    pub body: Body<'a>,
     pub enclosing: &'a Enclosing,
     pub secret: bool,
 }

@@ -19,14 +19,14 @@ use reasons::Reason;
 // One of a for's bounds.
 #[tactic(auto, using(crate::proofs::LoopRules::bound_labelled))]
 fn label_bound(around: Around<'_>, cursor: Cursor, level: u32) -> Labelled
-    requires { ExpressionRead level around.procedure.program.image.now cursor.at }
-    ensures { result ≡ bounding around.entry.procedure.types.now (arrays_in around.entry.procedure.program.table.now)
+    requires { ExpressionRead level around.body.image.now cursor.at }
+    ensures { result ≡ bounding around.entry.body.types.now (arrays_in around.entry.body.table.now)
         (bounds_in around.entry.enclosing.now.loops) around.entry.secret cursor.best
-        (read_expression level around.entry.procedure.program.image.now cursor.at) }
+        (read_expression level around.entry.body.image.now cursor.at) }
 {
     let place = cursor.at;
     let e = label_expression(around, cursor, level);
-    let constant = constant_at(around.procedure.program.image, place).is_some();
+    let constant = constant_at(around.body.image, place).is_some();
     let public = e.cursor.noted(e.secret, Reason::SecretWherePublic, place);
     let judged = public.noted(around.secret & !constant, Reason::Unbounded, place);
     Labelled {
@@ -51,15 +51,15 @@ pub fn loop_inside(image: &[u32], from: usize, to: usize) -> Option<ConstantLoop
 // Both bounds of a for.
 #[tactic(auto, using(crate::proofs::LoopRules::to_fine, crate::proofs::LoopRules::bounds_labelled))]
 pub fn label_bounds(around: Around<'_>, cursor: Cursor, level: u32) -> Limited
-    requires { PairRead level around.procedure.program.image.now cursor.at }
-    ensures { (unwrap_or result.inside unbounded, result.cursor) ≡ limited around.entry.procedure.types.now
-        (arrays_in around.entry.procedure.program.table.now) (bounds_in around.entry.enclosing.now.loops) around.entry.secret cursor.best
-        (read_expression level around.entry.procedure.program.image.now cursor.at)
-        (read_expression level around.entry.procedure.program.image.now (end_of (read_expression level around.entry.procedure.program.image.now cursor.at))) }
+    requires { PairRead level around.body.image.now cursor.at }
+    ensures { (unwrap_or result.inside unbounded, result.cursor) ≡ limited around.entry.body.types.now
+        (arrays_in around.entry.body.table.now) (bounds_in around.entry.enclosing.now.loops) around.entry.secret cursor.best
+        (read_expression level around.entry.body.image.now cursor.at)
+        (read_expression level around.entry.body.image.now (end_of (read_expression level around.entry.body.image.now cursor.at))) }
 {
     let from = label_bound(around, cursor, level);
     let to = label_bound(around, from.cursor, level);
-    let inside = loop_inside(around.procedure.program.image, cursor.at, from.cursor.at);
+    let inside = loop_inside(around.body.image, cursor.at, from.cursor.at);
     Limited {
         inside,
         cursor: to.cursor,

@@ -7,8 +7,8 @@ ghost use Rattle.tables.specs.Looking.{procedure_in};
 
 use super::enclosing::Enclosing;
 use super::statement_words::label_block;
-use super::{Cursor, Walk};
-use contexts::Context;
+use super::{Cursor, Scope, Walk};
+use contexts::{Body, Context};
 use definitions::Fault;
 use image_words::limits::largest_level;
 use tables::programs::Program;
@@ -21,9 +21,11 @@ fn label_procedure(program: Program<'_>, me: u32, best: Fault) -> Fault
     let procedure = program.procedure(me);
     let form = program.form();
     let walk = Walk {
-        procedure,
-        form,
-        result: program.result_type(me),
+        scope: Scope {
+            body: Body::of(procedure),
+            form,
+            result: program.result_type(me),
+        },
     };
     let start = Context {
         pc: program.is_guarded(me),

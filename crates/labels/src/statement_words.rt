@@ -10,7 +10,7 @@ use super::expressions::label_expression;
 use super::leaves::{label_assign, label_call, label_return, label_store};
 use super::loops::label_bounds;
 use super::{Around, Cursor, Walk, Walked};
-use contexts::{Body, Context, rc_block};
+use contexts::{Context, rc_block};
 use image_words::ops::Op;
 use image_words::{ops, payload, target};
 use reasons::Reason;
@@ -25,10 +25,10 @@ pub fn label_block(
     cursor: Cursor,
     level: u32,
 ) -> Walked
-    requires { BlockRead level (params_in walk.procedure.program.table.now) walk.procedure.me walk.procedure.program.image.now cursor.at }
-    ensures { (result ≡ block_at walk.entry (bounds_in enclosing.old.loops) context cursor level) × (bounds_in enclosing.new.loops ≡ bounds_in enclosing.old.loops) }
+    requires { BlockRead level (params_in walk.scope.body.table.now) walk.scope.body.me walk.scope.body.image.now cursor.at }
+    ensures { (result ≡ block_at walk.entry.scope (bounds_in enclosing.old.loops) context cursor level) × (bounds_in enclosing.new.loops ≡ bounds_in enclosing.old.loops) }
 {
-    let count = payload(walk.procedure.program.image[cursor.at]);
+    let count = payload(walk.scope.body.image[cursor.at]);
     let mut r = context.rc;
     let mut a = Cursor {
         at: cursor.at + 1,
@@ -56,15 +56,15 @@ fn label_statement(
     cursor: Cursor,
     level: u32,
 ) -> Walked
-    requires { StatementHere walk cursor level }
-    ensures { (result ≡ statement_at walk.entry (bounds_in enclosing.old.loops) context cursor level) × (bounds_in enclosing.new.loops ≡ bounds_in enclosing.old.loops) }
+    requires { StatementHere walk.scope cursor level }
+    ensures { (result ≡ statement_at walk.entry.scope (bounds_in enclosing.old.loops) context cursor level) × (bounds_in enclosing.new.loops ≡ bounds_in enclosing.old.loops) }
 {
-    match ops::of(walk.procedure.program.image[cursor.at]) {
-        Op::Assign => label_assign(walk, enclosing, context, cursor, level),
-        Op::Store => label_store(walk, enclosing, context, cursor, level),
+    match ops::of(walk.scope.body.image[cursor.at]) {
+        Op::Assign => label_assign(walk.scope, enclosing, context, cursor, level),
+        Op::Store => label_store(walk.scope, enclosing, context, cursor, level),
         Op::If => label_if(walk, enclosing, context, cursor, level),
         Op::For => label_for(walk, enclosing, context, cursor, level),
-        Op::Return => label_return(walk, enclosing, context, cursor, level),
+        Op::Return => label_return(walk.scope, enclosing, context, cursor, level),
         Op::Call => label_call(walk, enclosing, context, cursor, level),
     }
 }
@@ -79,11 +79,11 @@ fn label_if(
     cursor: Cursor,
     level: u32,
 ) -> Walked
-    requires { StatementHere walk cursor level × (op_here walk cursor ≡ 2) }
-    ensures { (result ≡ statement_at walk.entry (bounds_in enclosing.old.loops) context cursor level) × (bounds_in enclosing.new.loops ≡ bounds_in enclosing.old.loops) }
+    requires { StatementHere walk.scope cursor level × (op_here walk.scope cursor ≡ 2) }
+    ensures { (result ≡ statement_at walk.entry.scope (bounds_in enclosing.old.loops) context cursor level) × (bounds_in enclosing.new.loops ≡ bounds_in enclosing.old.loops) }
 {
     let around = Around {
-        procedure: walk.procedure,
+        body: walk.scope.body,
         enclosing: &*enclosing,
         secret: context.pc | context.rc,
     };
@@ -92,7 +92,11 @@ fn label_if(
         ..cursor
     };
     let c = label_expression(around, condition, level - 1);
-    let judged = c.cursor.noted((walk.form == 1) & c.secret, Reason::SecretBranch, cursor.at);
+    let judged = c.cursor.noted(
+        (walk.scope.form == 1) & c.secret,
+        Reason::SecretBranch,
+        cursor.at,
+    );
     let arm = Context {
         pc: context.pc | c.secret,
         rc: context.rc,
@@ -115,12 +119,12 @@ fn label_for(
     cursor: Cursor,
     level: u32,
 ) -> Walked
-    requires { StatementHere walk cursor level × (op_here walk cursor ≡ 3) }
-    ensures { (result ≡ statement_at walk.entry (bounds_in enclosing.old.loops) context cursor level) × (bounds_in enclosing.new.loops ≡ bounds_in enclosing.old.loops) }
+    requires { StatementHere walk.scope cursor level × (op_here walk.scope cursor ≡ 3) }
+    ensures { (result ≡ statement_at walk.entry.scope (bounds_in enclosing.old.loops) context cursor level) × (bounds_in enclosing.new.loops ≡ bounds_in enclosing.old.loops) }
 {
-    let x = target(walk.procedure.program.image[cursor.at]);
+    let x = target(walk.scope.body.image[cursor.at]);
     let around = Around {
-        procedure: walk.procedure,
+        body: walk.scope.body,
         enclosing: &*enclosing,
         secret: context.pc | context.rc,
     };
@@ -129,7 +133,7 @@ fn label_for(
         ..cursor
     };
     let t = label_bounds(around, bounds, level - 1);
-    let after = rc_block(Body::of(walk.procedure), context, t.cursor.at, level - 1);
+    let after = rc_block(walk.scope.body, context, t.cursor.at, level - 1);
     let now = Context {
         pc: context.pc,
         rc: after.rc,

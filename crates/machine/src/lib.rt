@@ -67,20 +67,19 @@ impl<const N: usize> Machine<N> {
         }
     }
 
-    pub fn poke(self, table: &Table, a: u32, i: u32, v: u32) -> Turn<N>
+    pub fn poke(mut self, table: &Table, a: u32, i: u32, v: u32) -> Turn<N>
         requires { Fits table.now self.count }
         ensures { Turned self.entry result (poke_on (arrays_in table.now) (held self.entry) a i v) }
     {
         let Some(at) = find_cell(table, a, i) else {
-            return self.missing();
+            return Turn {
+                machine: self,
+                answer: Self::missing(),
+            };
         };
-        let mut cells = self.cells;
-        cells[at] = v;
+        self.cells[at] = v;
         Turn {
-            machine: Machine {
-                cells,
-                count: self.count,
-            },
+            machine: self,
             answer: Answer::Done(0, 0, 0),
         }
     }
@@ -90,7 +89,10 @@ impl<const N: usize> Machine<N> {
         ensures { Turned self.entry result (peek_on (arrays_in table.now) (held self.entry) a i) }
     {
         let Some(at) = find_cell(table, a, i) else {
-            return self.missing();
+            return Turn {
+                machine: self,
+                answer: Self::missing(),
+            };
         };
         Turn {
             machine: self,
@@ -98,14 +100,11 @@ impl<const N: usize> Machine<N> {
         }
     }
 
-    // The machine has no such cell.
-    fn missing(self) -> Turn<N>
-        ensures { (result.machine ≡ self.entry) × (result.answer ≡ Refused 17 0) }
+    // The machine has no such cell. (The answer alone: a machine that is handed through is copied.)
+    fn missing() -> Answer
+        ensures { result ≡ Refused 17 0 }
     {
-        Turn {
-            machine: self,
-            answer: Answer::Refused(Reason::Missing.number(), 0),
-        }
+        Answer::Refused(Reason::Missing.number(), 0)
     }
 
     // The call: a result hands back the machine that the run left, a stop or a refusal the one that came in.

@@ -1,4 +1,4 @@
-// The operators of expressions: the sorts of their operands and results, and the values that they compute.
+// The operators of expressions: the table of sorts, and the values that they compute.
 #![tactic(auto)]
 
 pub mod unary; // operators with one operand
@@ -7,6 +7,7 @@ mod values; // the values of operators, as definitions/specs/Arithmetic.antt has
 ghost use Rattle.std.specs.Prelude.{◌≡◌, ◌≤◌, ◌<◌, IfSome, IfNone};
 ghost use Rattle.definitions.specs.Operators.{operator, apply_binary, apply_unary};
 ghost use Rattle.operators.specs.Numbers.{sort_number, publics_number, operator_number};
+ghost use Rattle.operators.specs.Rows.{view};
 
 use unary::UnaryOperator;
 pub use values::{multiply, truth};
@@ -59,6 +60,29 @@ pub enum Operator {
     LogicalOr = 14,
 }
 
+// The sort of both operands, the sort of the result, the operands that have to be public.
+#[derive(Clone, Copy)]
+struct Row(Sort, Sort, PublicOperands);
+
+// The paper's table, in the order of the numbers.
+const OPERATORS: [Row; 15] = [
+    Row(Sort::Word, Sort::Word, PublicOperands::Neither), // 0 add
+    Row(Sort::Word, Sort::Word, PublicOperands::Neither), // 1 subtract
+    Row(Sort::Word, Sort::Word, PublicOperands::Neither), // 2 multiply
+    Row(Sort::Word, Sort::Word, PublicOperands::Neither), // 3 and
+    Row(Sort::Word, Sort::Word, PublicOperands::Neither), // 4 or
+    Row(Sort::Word, Sort::Word, PublicOperands::Neither), // 5 xor
+    Row(Sort::Word, Sort::Word, PublicOperands::Right), // 6 shift left
+    Row(Sort::Word, Sort::Word, PublicOperands::Right), // 7 shift right
+    Row(Sort::Word, Sort::Word, PublicOperands::Right), // 8 rotate left
+    Row(Sort::Word, Sort::Word, PublicOperands::Both), // 9 quotient
+    Row(Sort::Word, Sort::Word, PublicOperands::Both), // 10 remainder
+    Row(Sort::Word, Sort::Boolean, PublicOperands::Neither), // 11 equal
+    Row(Sort::Word, Sort::Boolean, PublicOperands::Neither), // 12 less
+    Row(Sort::Boolean, Sort::Boolean, PublicOperands::Neither), // 13 and
+    Row(Sort::Boolean, Sort::Boolean, PublicOperands::Neither), // 14 or
+];
+
 impl Operator {
     pub fn of(number: u32) -> Operator
         requires { number < 15 }
@@ -93,35 +117,33 @@ impl Operator {
         }
     }
 
+    // The operator's row of the table.
+    #[tactic(auto, using(crate::proofs::Table::entry))]
+    fn row(self) -> Row
+        ensures { view result ≡ operator (operator_number self) }
+    {
+        OPERATORS[self as usize]
+    }
+
     // The sort of both operands.
     pub fn operands(self) -> Sort
         ensures { sort_number result ≡ (operator (operator_number self)).operands }
     {
-        match self {
-            Operator::LogicalAnd | Operator::LogicalOr => Sort::Boolean,
-            _ => Sort::Word,
-        }
+        self.row().0
     }
 
-    // The sort of the result: that of the operands, but for comparisons.
+    // The sort of the result.
     pub fn result(self) -> Sort
         ensures { sort_number result ≡ (operator (operator_number self)).result }
     {
-        match self {
-            Operator::Equal | Operator::Less => Sort::Boolean,
-            _ => self.operands(),
-        }
+        self.row().1
     }
 
+    // Which operands have to be public.
     pub fn publics(self) -> PublicOperands
         ensures { publics_number result ≡ (operator (operator_number self)).publics }
     {
-        match self {
-            Operator::ShiftLeft | Operator::ShiftRight => PublicOperands::Right,
-            Operator::RotateLeft => PublicOperands::Right,
-            Operator::Quotient | Operator::Remainder => PublicOperands::Both,
-            _ => PublicOperands::Neither,
-        }
+        self.row().2
     }
 
     #[tactic(auto, using(crate::proofs::Operations::product_is), unfolding(definitions::specs::Operators::apply_binary))]

@@ -94,6 +94,16 @@ fn load_sized<const N: usize>(image: &[u8], count: usize, table: &mut Table) -> 
     prepare(image, count, &mut words, table, &mut ends)
 }
 
+// A short image. Its words stand in a frame of their own, which a long one does not need beside its own.
+#[inline(never)]
+fn load_short(image: &[u8], count: usize, table: &mut Table) -> Result<usize, Fault>
+    requires { (min (length image.now / 4) 16384 ≤ 512) × (table.old ≡ replicate 129 0) }
+    ensures { (result ≡ readied (ready_to_load (whole_words image.now) (words_of image.now) count))
+        × (table.new ≡ table_left (read_image (whole_words image.now) (words_of image.now))) }
+{
+    load_sized::<SHORT>(image, count, table)
+}
+
 // An image of any length. Its words stand in a frame of their own, which a short image does not need.
 #[inline(never)]
 fn load_long(image: &[u8], count: usize, table: &mut Table) -> Result<usize, Fault>
@@ -115,7 +125,7 @@ pub fn ready_to_load(image: &[u8], count: usize, table: &mut Table) -> Result<us
         return ready_to_load(&image[..ENOUGH], count, table);
     }
     if image.len() <= 4 * SHORT {
-        return load_sized::<SHORT>(image, count, table);
+        return load_short(image, count, table);
     }
     load_long(image, count, table)
 }

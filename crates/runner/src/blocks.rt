@@ -146,12 +146,21 @@ fn run_for(
     run_passes(scope, vars, state, passes, level - 1)
 }
 
-// The variables of a procedure that begins: its values, then zeros.
+// The variables of a procedure that begins: its values, then zeros. (One by one: after `copy_from_slice` the array was made in one frame and copied
+// into another, for each body that is open.)
 fn frame_of(values: &[u32; PARAMETERS]) -> [u32; VARIABLES]
     ensures { result ≡ framed values.now }
 {
     let mut frame = [0u32; VARIABLES];
-    frame[..PARAMETERS].copy_from_slice(values);
+    frame[0] = values[0];
+    frame[1] = values[1];
+    frame[2] = values[2];
+    frame[3] = values[3];
+    frame[4] = values[4];
+    frame[5] = values[5];
+    frame[6] = values[6];
+    frame[7] = values[7];
+    frame[8] = values[8];
     frame
 }
 

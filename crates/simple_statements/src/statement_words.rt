@@ -25,6 +25,7 @@ pub fn run_assign(
         × (op_of (get_or scope.now.program.image.now at 0) ≡ 0) }
     ensures answer { finished result vars.new state.new ≡ statement_run scope.now level at vars.old state.old }
     ensures same { SameLent state.old state.new }
+    ensures kept { state.new.cells.now ≡ state.old.cells.now }
 {
     let x = target(scope.program.image[at]);
     let memory = Memory {
@@ -76,6 +77,7 @@ pub fn run_return(
         × (op_of (get_or scope.now.program.image.now at 0) ≡ 4) }
     ensures answer { finished result vars.now state.new ≡ statement_run scope.now level at vars.now state.old }
     ensures same { SameLent state.old state.new }
+    ensures kept { state.new.cells.now ≡ state.old.cells.now }
 {
     let memory = Memory {
         program: scope.program,

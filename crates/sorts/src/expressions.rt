@@ -11,9 +11,8 @@ ghost use Rattle.operators.specs.Numbers.{sort_number};
 ghost use Rattle.sorts.specs.Numbers.{number_of};
 ghost use Rattle.sorts.specs.Walk.{view, expression_walked, operand_walked};
 
-use super::WalkedExpression;
 use super::mark_table::{Mark, Marks};
-use super::statement_words::Body;
+use super::{Scope, WalkedExpression, Words};
 use definitions::Fault;
 use image_words::kinds::Kind;
 use image_words::lists::wide;
@@ -59,16 +58,17 @@ pub fn note_wrong_sort(best: Fault, want: Option<Sort>, have: Option<Sort>, plac
 // The walk over a procedure's body, with what the fors make of its variables at the place that is reached.
 #[derive(Clone, Copy)]
 pub struct Walk<'a> {
-    pub body: Body<'a>,
+    pub words: Words<'a>,
+    pub scope: Scope,
     pub marks: &'a Marks,
 }
 
 impl Walk<'_> {
     // A read of a variable: there has to be one, and a loop variable is read only inside its blocks.
     fn note_read(self, x: u32, at: usize, best: Fault) -> Fault
-        ensures { result ≡ least (least best (fault_if (leb (length self.entry.body.procedure.types.now) x) 6 at)) (fault_if (eqb (get_or self.entry.marks.now x 0) 1) 8 at) }
+        ensures { result ≡ least (least best (fault_if (leb (length self.entry.words.types.now) x) 6 at)) (fault_if (eqb (get_or self.entry.marks.now x 0) 1) 8 at) }
     {
-        let named = note_missing(best, self.body.procedure.types.len(), x, at);
+        let named = note_missing(best, self.words.types.len(), x, at);
         let outside = self.marks.get(x) == Mark::Outside;
         faults::note(named, outside, Reason::LoopVariable.number(), at)
     }
@@ -83,9 +83,9 @@ impl Walk<'_> {
         level: u32,
         best: Fault,
     ) -> WalkedExpression
-        requires { ExpressionRead level self.body.procedure.program.image.now at }
-        ensures { view result ≡ operand_walked self.entry.body.procedure.types.now (array_count_in self.entry.body.procedure.program.table.now) self.entry.marks.now (number_of want) best
-            (read_expression level self.entry.body.procedure.program.image.now at) }
+        requires { ExpressionRead level self.words.image.now at }
+        ensures { view result ≡ operand_walked self.entry.words.types.now (array_count_in self.entry.words.table.now) self.entry.marks.now (number_of want) best
+            (read_expression level self.entry.words.image.now at) }
     {
         let e = self.check_expression(at, level, best);
         WalkedExpression {
@@ -98,11 +98,11 @@ impl Walk<'_> {
     #[cycle(operands)]
     #[tactic(auto, using(image_words::specs::Parts::kind_there, crate::proofs::ExpressionRules::constant_returns, crate::proofs::ExpressionRules::raw_returns, crate::proofs::ExpressionRules::boolean_returns, crate::proofs::ExpressionRules::variable_returns))]
     fn check_expression(self, at: usize, level: u32, best: Fault) -> WalkedExpression
-        requires { ExpressionRead level self.body.procedure.program.image.now at }
-        ensures { view result ≡ expression_walked self.entry.body.procedure.types.now (array_count_in self.entry.body.procedure.program.table.now) self.entry.marks.now best
-            (read_expression level self.entry.body.procedure.program.image.now at) }
+        requires { ExpressionRead level self.words.image.now at }
+        ensures { view result ≡ expression_walked self.entry.words.types.now (array_count_in self.entry.words.table.now) self.entry.marks.now best
+            (read_expression level self.entry.words.image.now at) }
     {
-        let w = self.body.procedure.program.image[at];
+        let w = self.words.image[at];
         match kinds::of(w) {
             Kind::Constant => WalkedExpression {
                 sort: Some(Sort::Word),
@@ -122,7 +122,7 @@ impl Walk<'_> {
             Kind::Variable => {
                 let x = payload(w);
                 WalkedExpression {
-                    sort: variable_sort(self.body.procedure.types, x),
+                    sort: variable_sort(self.words.types, x),
                     next: at + 1,
                     best: self.note_read(x, at, best),
                 }
@@ -137,13 +137,12 @@ impl Walk<'_> {
     #[cycle(operands)]
     #[tactic(auto, using(image_words::specs::Parts::read_cell, crate::proofs::ExpressionRules::cell_returns))]
     fn check_cell(self, at: usize, level: u32, best: Fault) -> WalkedExpression
-        requires { ExpressionRead level self.body.procedure.program.image.now at × (kind_of (get_or self.body.procedure.program.image.now at 0) ≡ 11) }
-        ensures { view result ≡ expression_walked self.entry.body.procedure.types.now (array_count_in self.entry.body.procedure.program.table.now) self.entry.marks.now best
-            (read_expression level self.entry.body.procedure.program.image.now at) }
+        requires { ExpressionRead level self.words.image.now at × (kind_of (get_or self.words.image.now at 0) ≡ 11) }
+        ensures { view result ≡ expression_walked self.entry.words.types.now (array_count_in self.entry.words.table.now) self.entry.marks.now best
+            (read_expression level self.entry.words.image.now at) }
     {
-        let program = self.body.procedure.program;
-        let array = payload(program.image[at]);
-        let named = note_missing(best, array_count(program.table), array, at);
+        let array = payload(self.words.image[at]);
+        let named = note_missing(best, array_count(self.words.table), array, at);
         let i = self.check_operand(Some(Sort::Word), at + 1, level - 1, named);
         WalkedExpression {
             sort: Some(Sort::Word),
@@ -154,11 +153,11 @@ impl Walk<'_> {
     #[cycle(operands)]
     #[tactic(auto, using(image_words::specs::Parts::read_unary, crate::proofs::ExpressionRules::unary_there, crate::proofs::ExpressionRules::unary_returns))]
     fn check_unary(self, at: usize, level: u32, best: Fault) -> WalkedExpression
-        requires { ExpressionRead level self.body.procedure.program.image.now at × (kind_of (get_or self.body.procedure.program.image.now at 0) ≡ 12) }
-        ensures { view result ≡ expression_walked self.entry.body.procedure.types.now (array_count_in self.entry.body.procedure.program.table.now) self.entry.marks.now best
-            (read_expression level self.entry.body.procedure.program.image.now at) }
+        requires { ExpressionRead level self.words.image.now at × (kind_of (get_or self.words.image.now at 0) ≡ 12) }
+        ensures { view result ≡ expression_walked self.entry.words.types.now (array_count_in self.entry.words.table.now) self.entry.marks.now best
+            (read_expression level self.entry.words.image.now at) }
     {
-        let operator = UnaryOperator::of(payload(self.body.procedure.program.image[at]));
+        let operator = UnaryOperator::of(payload(self.words.image[at]));
         let e = self.check_operand(Some(operator.operand()), at + 1, level - 1, best);
         WalkedExpression {
             sort: Some(operator.result()),
@@ -169,11 +168,11 @@ impl Walk<'_> {
     #[cycle(operands)]
     #[tactic(auto, using(faults::specs::Parts::operator_limit, image_words::specs::Parts::read_binary, crate::proofs::ExpressionRules::second_fine, crate::proofs::ExpressionRules::binary_returns))]
     fn check_binary(self, at: usize, level: u32, best: Fault) -> WalkedExpression
-        requires { ExpressionRead level self.body.procedure.program.image.now at × (kind_of (get_or self.body.procedure.program.image.now at 0) ≡ 13) }
-        ensures { view result ≡ expression_walked self.entry.body.procedure.types.now (array_count_in self.entry.body.procedure.program.table.now) self.entry.marks.now best
-            (read_expression level self.entry.body.procedure.program.image.now at) }
+        requires { ExpressionRead level self.words.image.now at × (kind_of (get_or self.words.image.now at 0) ≡ 13) }
+        ensures { view result ≡ expression_walked self.entry.words.types.now (array_count_in self.entry.words.table.now) self.entry.marks.now best
+            (read_expression level self.entry.words.image.now at) }
     {
-        let operator = Operator::of(payload(self.body.procedure.program.image[at]));
+        let operator = Operator::of(payload(self.words.image[at]));
         let want = Some(operator.operands());
         let e = self.check_operand(want, at + 1, level - 1, best);
         let f = self.check_operand(want, e.next, level - 1, e.best);
@@ -187,9 +186,9 @@ impl Walk<'_> {
     #[cycle(operands)]
     #[tactic(auto, using(image_words::specs::Parts::read_condition, crate::proofs::ExpressionRules::values_fine, crate::proofs::ExpressionRules::value_fine, crate::proofs::ExpressionRules::select_returns))]
     fn check_select(self, at: usize, level: u32, best: Fault) -> WalkedExpression
-        requires { ExpressionRead level self.body.procedure.program.image.now at × (kind_of (get_or self.body.procedure.program.image.now at 0) ≡ 14) }
-        ensures { view result ≡ expression_walked self.entry.body.procedure.types.now (array_count_in self.entry.body.procedure.program.table.now) self.entry.marks.now best
-            (read_expression level self.entry.body.procedure.program.image.now at) }
+        requires { ExpressionRead level self.words.image.now at × (kind_of (get_or self.words.image.now at 0) ≡ 14) }
+        ensures { view result ≡ expression_walked self.entry.words.types.now (array_count_in self.entry.words.table.now) self.entry.marks.now best
+            (read_expression level self.entry.words.image.now at) }
     {
         let inner = level - 1;
         let c = self.check_operand(Some(Sort::Boolean), at + 1, inner, best);

@@ -4,6 +4,7 @@
 
 use definitions::Fault;
 use operators::Sort;
+use tables::Table;
 
 mod expressions; // expressions
 mod leaves; // statements that hold no block
@@ -17,6 +18,16 @@ pub mod procedures; // a whole image
 pub struct Scope {
     pub parameters: u32,
     pub result: u32,
+}
+
+// The words that a procedure's body is read by: its image with the table, the type words of its variables, its number. Not a Procedure, which
+// asks that its image was read: mark_block and check_expression may not ask more than that their part was.
+#[derive(Clone, Copy)]
+pub struct Words<'a> {
+    pub image: &'a [u32],
+    pub table: &'a Table,
+    pub types: &'a [u32],
+    pub me: u32,
 }
 
 // What the walk of an expression gives: its sort, but for what names no variable; the place after it; the lowest fault so far.

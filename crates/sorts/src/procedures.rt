@@ -6,10 +6,10 @@ ghost use Rattle.laws.specs.ImageIn.{image_in, procedures_in};
 ghost use Rattle.tables.specs.Table.{array_count_in};
 ghost use Rattle.tables.specs.Looking.{procedure_in};
 
-use super::Scope;
 use super::mark_table::Marks;
 use super::marks::mark_block;
 use super::statement_words::Body;
+use super::{Scope, Words};
 use definitions::Fault;
 use image_words::limits::largest_level;
 use tables::programs::Program;
@@ -27,9 +27,15 @@ fn check_procedure(program: Program, me: u32, best: Fault) -> Fault
     };
     let body = procedure.body();
     let level = largest_level(program.form());
+    let words = Words {
+        image: procedure.program.image,
+        table: procedure.program.table,
+        types: procedure.types,
+        me: procedure.me,
+    };
     let mut marks = Marks::new();
-    mark_block(procedure, &mut marks, body, level);
-    let walked = Body { procedure, scope }.check_block(&mut marks, body, level, best);
+    mark_block(words, &mut marks, body, level);
+    let walked = Body { words, scope }.check_block(&mut marks, body, level, best);
     walked.best
 }
 

@@ -134,7 +134,7 @@ module _ (callees : List Summary) (c : Counted) (l : ℕ) (params : List ℕ) (m
     count_single r h = elim either [ inl e ↦ count_assign r (ho ∙ ap op_number e) h | inr e ↦ count_return r (ho ∙ ap op_number e) h ]
 
   -- a call
-  pub callee_there : (f i : ℕ) → me < 32 → op_of (get_or image c.at 0) ≡ 5 → f ≡ called_of (get_or image c.at 0) → i ≡ f → i < 32
+  pub callee_there : (f i : ℕ) → me ≤ 32 → op_of (get_or image c.at 0) ≡ 5 → f ≡ called_of (get_or image c.at 0) → i ≡ f → i < 32
   callee_there f i few five hf hi = let b = read_called l params me image c.at t 5 (sym five) refl in omega arith
 
   pub count_call : (f a i j n s m : ℕ) (x : Summary) (r : Option ℕ) → op_of (get_or image c.at 0) ≡ 5 → f ≡ called_of (get_or image c.at 0)

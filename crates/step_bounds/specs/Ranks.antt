@@ -1,5 +1,5 @@
 -- The rank of the lowest procedure with a for whose bounds are not constants, among a procedure and those that it calls: 32 less its number, and 0 for
--- none. It is all that has to be kept of which procedures are reached. Assumes nothing.
+-- none. That procedure is all that has to be kept of which procedures are reached; the proofs go by its rank. Assumes nothing.
 use Prim.Native.Nat.{ℕ, zero, suc, ◌-◌, ◌≤◌, ◌<◌, max}
 use Rattle.std.specs.Prelude.{Bool, ◌||◌, ◌≡◌, ltb, Option, Some, None}
 use Rattle.std.proofs.Math.Bool.{true, false}

@@ -44,7 +44,12 @@ fn count_procedure(program: Program, callees: &[Summary; PROCEDURES], g: u32) ->
     ensures { CountedProcedure (procedures_in program.entry.image.now) callees.now g result }
 {
     let procedure = program.procedure(g);
-    let walk = Walk { procedure, callees };
+    let walk = Walk {
+        image: procedure.program.image,
+        table: procedure.program.table,
+        me: procedure.me,
+        callees,
+    };
     let start = Counted {
         at: procedure.body(),
         cost: 0,

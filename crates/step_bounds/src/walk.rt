@@ -12,7 +12,7 @@ use image_words::ops::Op;
 use image_words::skipping::skip;
 use image_words::{called, ops, payload};
 use labels::operands::constant_at;
-use tables::programs::Procedure;
+use tables::Table;
 
 // The most procedures of an image.
 pub const PROCEDURES: usize = 32;
@@ -72,10 +72,13 @@ fn enter(before: Counted, variable: bool, block: usize) -> Counted
     }
 }
 
-// The walk over the body of a procedure, with what is known of the procedures before it.
+// The walk over the body of a procedure: the words that it is read by, its number, and what is known of the procedures before it. Not a
+// Procedure, which asks that its image was read: count_block may not ask more than that its block was.
 #[derive(Clone, Copy)]
 pub struct Walk<'a> {
-    pub procedure: Procedure<'a>,
+    pub image: &'a [u32],
+    pub table: &'a Table,
+    pub me: u32,
     pub callees: &'a [Summary; PROCEDURES],
 }
 
@@ -84,11 +87,11 @@ impl Walk<'_> {
     #[cycle(blocks)]
     #[tactic(auto, using(image_words::specs::StatementParts::op_there))]
     fn count_statement(self, before: Counted, level: u32) -> Counted
-        requires { StatementRead level (params_in self.procedure.program.table.now) self.procedure.me self.procedure.program.image.now before.at × (before.cost ≤ CEILING) }
+        requires { StatementRead level (params_in self.table.now) self.me self.image.now before.at × (self.me ≤ 32) × (before.cost ≤ CEILING) }
         ensures { result ≡ counted self.entry.callees.now before
-            (read_statement level (params_in self.entry.procedure.program.table.now) self.entry.procedure.me self.entry.procedure.program.image.now before.at) }
+            (read_statement level (params_in self.entry.table.now) self.entry.me self.entry.image.now before.at) }
     {
-        let image = self.procedure.program.image;
+        let image = self.image;
         let at = before.at;
         match ops::of(image[at]) {
             Op::Assign | Op::Return => step(before, skip(image, at + 1, 1)),
@@ -101,15 +104,18 @@ impl Walk<'_> {
 
     // A call: its step, and all that its callee costs.
     fn count_call(self, before: Counted, level: u32) -> Counted
-        requires { StatementRead level (params_in self.procedure.program.table.now) self.procedure.me self.procedure.program.image.now before.at × (before.cost ≤ CEILING) × (op_of (get_or self.procedure.program.image.now before.at 0) ≡ 5) }
+        requires { StatementRead level (params_in self.table.now) self.me self.image.now before.at × (self.me ≤ 32) × (before.cost ≤ CEILING) × (op_of (get_or self.image.now before.at 0) ≡ 5) }
         ensures { result ≡ counted self.entry.callees.now before
-            (read_statement level (params_in self.entry.procedure.program.table.now) self.entry.procedure.me self.entry.procedure.program.image.now before.at) }
+            (read_statement level (params_in self.entry.table.now) self.entry.me self.entry.image.now before.at) }
     {
-        let program = self.procedure.program;
-        let f = called(program.image[before.at]);
+        let f = called(self.image[before.at]);
         let callee = self.callees[wide(f)];
         Counted {
-            at: skip(program.image, before.at + 1, wide(program.parameters(f))),
+            at: skip(
+                self.image,
+                before.at + 1,
+                wide(tables::parameters(self.table, f)),
+            ),
             cost: sum(before.cost, sum(1, callee.cost)),
             lowest: lower(before.lowest, callee.lowest),
             ..before
@@ -119,11 +125,11 @@ impl Walk<'_> {
     // An if: its step, and the larger of its arms.
     #[cycle(blocks)]
     fn count_if(self, before: Counted, level: u32) -> Counted
-        requires { StatementRead level (params_in self.procedure.program.table.now) self.procedure.me self.procedure.program.image.now before.at × (before.cost ≤ CEILING) × (op_of (get_or self.procedure.program.image.now before.at 0) ≡ 2) }
+        requires { StatementRead level (params_in self.table.now) self.me self.image.now before.at × (self.me ≤ 32) × (before.cost ≤ CEILING) × (op_of (get_or self.image.now before.at 0) ≡ 2) }
         ensures { result ≡ counted self.entry.callees.now before
-            (read_statement level (params_in self.entry.procedure.program.table.now) self.entry.procedure.me self.entry.procedure.program.image.now before.at) }
+            (read_statement level (params_in self.entry.table.now) self.entry.me self.entry.image.now before.at) }
     {
-        let first = skip(self.procedure.program.image, before.at + 1, 1);
+        let first = skip(self.image, before.at + 1, 1);
         let x = self.count_block(enter(before, false, first), level - 1);
         let y = self.count_block(enter(x, false, x.at), level - 1);
         Counted {
@@ -135,11 +141,11 @@ impl Walk<'_> {
     // A for: its step, and for each pass a step and what its block costs.
     #[cycle(blocks)]
     fn count_for(self, before: Counted, level: u32) -> Counted
-        requires { StatementRead level (params_in self.procedure.program.table.now) self.procedure.me self.procedure.program.image.now before.at × (before.cost ≤ CEILING) × (op_of (get_or self.procedure.program.image.now before.at 0) ≡ 3) }
+        requires { StatementRead level (params_in self.table.now) self.me self.image.now before.at × (self.me ≤ 32) × (before.cost ≤ CEILING) × (op_of (get_or self.image.now before.at 0) ≡ 3) }
         ensures { result ≡ counted self.entry.callees.now before
-            (read_statement level (params_in self.entry.procedure.program.table.now) self.entry.procedure.me self.entry.procedure.program.image.now before.at) }
+            (read_statement level (params_in self.entry.table.now) self.entry.me self.entry.image.now before.at) }
     {
-        let image = self.procedure.program.image;
+        let image = self.image;
         let from = before.at + 1;
         let to = skip(image, from, 1);
         let block = skip(image, to, 1);
@@ -157,12 +163,12 @@ impl Walk<'_> {
     // The statements of a block.
     #[cycle(blocks)]
     pub fn count_block(self, before: Counted, level: u32) -> Counted
-        requires { BlockRead level (params_in self.procedure.program.table.now) self.procedure.me self.procedure.program.image.now before.at × (before.cost ≤ CEILING) }
+        requires { BlockRead level (params_in self.table.now) self.me self.image.now before.at × (self.me ≤ 32) × (before.cost ≤ CEILING) }
         ensures { result ≡ counted_block self.entry.callees.now before
-            (read_block level (params_in self.entry.procedure.program.table.now) self.entry.procedure.me self.entry.procedure.program.image.now before.at) }
+            (read_block level (params_in self.entry.table.now) self.entry.me self.entry.image.now before.at) }
     {
         let at = before.at;
-        let count = payload(self.procedure.program.image[at]);
+        let count = payload(self.image[at]);
         let mut c = Counted {
             at: at + 1,
             ..before

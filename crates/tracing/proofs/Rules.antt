@@ -1,4 +1,4 @@
--- What each way out of `record` gives. Assumes nothing.
+-- What each way out of `note` gives, and that each entry has a kind it takes. Assumes nothing.
 use mathlib.Core.Path.{◌≡◌}
 use mathlib.Core.List.{List}
 use Prim.Native.Nat.{ℕ, ◌+◌, ◌-◌, ◌≤◌, ◌<◌}

@@ -49,12 +49,12 @@ impl Trace<'_> {
     ghost use Rattle.tracing.specs.Log.{byte_trace};
     ghost use Rattle.tracing.specs.Answers.{SameBytes, entry_number, evaluation, logged};
 
-    // Records an entry and hands its value on; a stop where there is no room for two words.
-    #[tactic(auto, using(crate::proofs::Rules::entry_small, crate::proofs::Rules::note_short, crate::proofs::Rules::note_spent, crate::proofs::Rules::note_kept))]
-    pub fn record(&mut self, entry: Entry, place: usize, value: u32) -> Result<u32, Stop>
-        requires { place < 268435456 }
+    // Records an entry of a kind and hands its value on; a stop where there is no room for two words.
+    #[tactic(auto, using(crate::proofs::Rules::note_short, crate::proofs::Rules::note_spent, crate::proofs::Rules::note_kept))]
+    pub fn note(&mut self, kind: u32, place: usize, value: u32) -> Result<u32, Stop>
+        requires { (kind < 15) × (place < 268435456) }
         ensures answer { evaluation result (logged self.new)
-            ≡ emit byte_trace (entry_number entry) place value (logged self.old) }
+            ≡ emit byte_trace kind place value (logged self.old) }
         ensures same { SameBytes self.old self.new }
     {
         let n = self.bytes.len();
@@ -69,13 +69,20 @@ impl Trace<'_> {
         if n - 8 < self.used {
             return Err(full);
         }
-        words::put_word(
-            self.bytes,
-            self.used,
-            word_with(entry.number(), place as u32),
-        );
+        words::put_word(self.bytes, self.used, word_with(kind, place as u32));
         words::put_word(self.bytes, self.used + 4, value);
         self.used += 8;
         Ok(value)
+    }
+
+    // Records an entry by its name, and hands its value on; a stop where there is no room for two words.
+    #[tactic(auto, using(crate::proofs::Rules::entry_small))]
+    pub fn record(&mut self, entry: Entry, place: usize, value: u32) -> Result<u32, Stop>
+        requires { place < 268435456 }
+        ensures answer { evaluation result (logged self.new)
+            ≡ emit byte_trace (entry_number entry) place value (logged self.old) }
+        ensures same { SameBytes self.old self.new }
+    {
+        self.note(entry.number(), place, value)
     }
 }

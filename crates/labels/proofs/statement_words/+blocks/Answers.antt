@@ -17,13 +17,10 @@ pub label_if-label_block-b-requires : goal.label_if-label_block-b-requires
 label_if-label_block-b-requires t c = search (fine, rules)
 
 pub label_for-rc_block-after-requires : goal.label_for-rc_block-after-requires
-label_for-rc_block-after-requires t c =
-    rw (c.of.ensures.0, c.of.ensures.1, c.of.ensures.3) (search (fine, rules))
+label_for-rc_block-after-requires t c = search (fine, rules)
 
 pub label_for-label_block-b-requires : goal.label_for-label_block-b-requires
 label_for-label_block-b-requires t c = search (fine, rules)
 
 pub label_for-returns : goal.label_for-returns
-label_for-returns t c =
-    let after = rw (c.of.ensures.0, c.of.ensures.1, c.of.ensures.2, c.of.ensures.3) at c.rc_block-after.ensures in
-    (search (walk_for, after, rules), search (kept, rules))
+label_for-returns t c = (search (walk_for, rules), search (kept, rules))

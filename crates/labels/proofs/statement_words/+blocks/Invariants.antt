@@ -24,11 +24,11 @@ decreases-label_statement l = 3 * l.level + 1
 abbrev pub invariant-label_block-loop : goal.invariant-label_block-loop
 invariant-label_block-loop l = record {
   outside : bounds_in l.enclosing.loops ≡ bounds_in l.initial.enclosing.loops;
-  read : ok (statements_at (l.count - l.counter) (l.level - 1) (params_in l.walk.procedure.program.table.now) l.walk.procedure.me l.walk.procedure.program.image.now l.a.at) ≡ true;
-  same : walked_block (procedures_in l.walk.procedure.program.image.now) (arrays_in l.walk.procedure.program.table.now) l.walk.procedure.types.now (bounds_in l.enclosing.loops)
-      l.walk.form l.walk.result l.context.pc l.r l.a.best
-      (statements_at (l.count - l.counter) (l.level - 1) (params_in l.walk.procedure.program.table.now) l.walk.procedure.me l.walk.procedure.program.image.now l.a.at)
-      ≡ walked_block (procedures_in l.walk.procedure.program.image.now) (arrays_in l.walk.procedure.program.table.now) l.walk.procedure.types.now (bounds_in l.initial.enclosing.loops)
-      l.walk.form l.walk.result l.context.pc l.context.rc l.fn.cursor.best
-      (read_block l.level (params_in l.walk.procedure.program.table.now) l.walk.procedure.me l.walk.procedure.program.image.now l.fn.cursor.at);
+  read : ok (statements_at (l.count - l.counter) (l.level - 1) (params_in l.walk.scope.body.table.now) l.walk.scope.body.me l.walk.scope.body.image.now l.a.at) ≡ true;
+  same : walked_block (procedures_in l.walk.scope.body.image.now) (arrays_in l.walk.scope.body.table.now) l.walk.scope.body.types.now (bounds_in l.enclosing.loops)
+      l.walk.scope.form l.walk.scope.result l.context.pc l.r l.a.best
+      (statements_at (l.count - l.counter) (l.level - 1) (params_in l.walk.scope.body.table.now) l.walk.scope.body.me l.walk.scope.body.image.now l.a.at)
+      ≡ walked_block (procedures_in l.walk.scope.body.image.now) (arrays_in l.walk.scope.body.table.now) l.walk.scope.body.types.now (bounds_in l.initial.enclosing.loops)
+      l.walk.scope.form l.walk.scope.result l.context.pc l.context.rc l.fn.cursor.best
+      (read_block l.level (params_in l.walk.scope.body.table.now) l.walk.scope.body.me l.walk.scope.body.image.now l.fn.cursor.at);
 }

@@ -8,9 +8,9 @@ use Rattle.sorts.proofs.leaves.check_arguments.Given as goal
 
 abbrev pub invariant-loop-k : goal.invariant-loop-k
 invariant-loop-k l =
-    let types = l.walk.body.procedure.types.now in
-    let arrays = array_count_in l.walk.body.procedure.program.table.now in
-    let image = l.walk.body.procedure.program.image.now in
+    let types = l.walk.words.types.now in
+    let arrays = array_count_in l.walk.words.table.now in
+    let image = l.walk.words.image.now in
     (l.k ≤ l.count) × (ok (arguments_at (l.count - l.k) l.level image l.walked.next) ≡ true)
     × (arguments_walked types arrays l.walk.marks.now l.callee l.k l.walked.best (arguments_at (l.count - l.k) l.level image l.walked.next)
     ≡ arguments_walked types arrays l.walk.marks.now l.callee 0 l.fn.best (arguments_at l.count l.level image l.at))

@@ -16,9 +16,9 @@ decreases-mark_statement l = 2 * l.level + 1
 
 abbrev pub invariant-mark_block-loop : goal.invariant-mark_block-loop
 invariant-mark_block-loop l =
-    let table = params_in l.procedure.program.table.now in
-    let me = l.procedure.me in
-    let image = l.procedure.program.image.now in
+    let table = params_in l.words.table.now in
+    let me = l.words.me in
+    let image = l.words.image.now in
     (l.counter ≤ l.count) × (ok (statements_at (l.count - l.counter) (l.level - 1) table me image l.a) ≡ true)
     × (block_marks (statements_at (l.count - l.counter) (l.level - 1) table me image l.a) l.marks
     ≡ block_marks (read_block l.level table me image l.at) l.initial.marks)

@@ -1,4 +1,5 @@
 -- What `check_procedure` asks of the walks of a body, and what it returns.
+use Rattle.std.proofs.Common.{rules}
 use Rattle.sorts.proofs.ProcedureRules.{body_fine, procedure_checked}
 use Rattle.sorts.proofs.procedures.check_procedure.Goals as goal
 
@@ -11,4 +12,4 @@ check_block-walked-requires c = body_fine c.procedure-procedure.result.listed c.
 pub returns : goal.returns
 returns c =
     procedure_checked c.procedure-procedure.result.listed c.procedure-procedure.ensures.typed c.procedure-procedure.ensures.of _ _ _ c.body-body.ensures
-    c.form.ensures c.largest_level-level.ensures _ _ _ _ _ _ _ c.parameters.ensures c.result_type.ensures c.new-marks.ensures c.mark_block.ensures c.check_block-walked.ensures.0
+    c.form.ensures c.largest_level-level.ensures _ _ _ _ _ _ _ c.parameters.ensures c.result_type.ensures (search rules) c.mark_block.ensures c.check_block-walked.ensures.0

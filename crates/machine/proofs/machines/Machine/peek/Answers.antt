@@ -13,4 +13,4 @@ pub returns : goal.returns
 returns g c = peeked c.args.self c.args.table.now _ _ c.requires _ c.find_cell.ensures _ c.in-Some.is _ refl
 
 pub returns-in_default : goal.returns-in_default
-returns-in_default g c = no_peek c.args.self c.args.table.now _ _ c.requires _ c.find_cell.ensures _ c.in_default.is c.missing.ensures.0 c.missing.ensures.1
+returns-in_default g c = no_peek c.args.self c.args.table.now _ _ c.requires _ c.find_cell.ensures _ c.in_default.is refl c.missing.ensures

@@ -1,16 +1,16 @@
 -- `machine::Machine::poke`: the cell that was found is one of the machine's.
-use Rattle.std.proofs.Common.{arith}
+use Rattle.std.proofs.Common.{arith, refl}
 use Rattle.machine.proofs.MachineRules.{no_poke, poked, slot_small, slot_within}
 use Rattle.machine.proofs.machines.Machine.poke.Goals as goal
 
-pub offset_bounds-cells-at : goal.offset_bounds-cells-at
-offset_bounds-cells-at g c = let small = slot_small c.args.self c.args.table.now _ _ c.requires _ c.find_cell.ensures _ c.in-Some.is in omega arith
+pub offset_bounds-self-at : goal.offset_bounds-self-at
+offset_bounds-self-at g c = let small = slot_small c.args.self c.args.table.now _ _ c.requires _ c.find_cell.ensures _ c.in-Some.is in omega arith
 
-pub bounds-cells-at : goal.bounds-cells-at
-bounds-cells-at g c = slot_within c.args.self c.args.table.now _ _ c.requires _ c.find_cell.ensures _ c.in-Some.is
+pub bounds-self-at : goal.bounds-self-at
+bounds-self-at g c = slot_within c.args.self c.args.table.now _ _ c.requires _ c.find_cell.ensures _ c.in-Some.is
 
 pub returns : goal.returns
 returns g c = poked c.args.self c.args.table.now _ _ c.requires _ c.find_cell.ensures _ c.in-Some.is _ _
 
 pub returns-in_default : goal.returns-in_default
-returns-in_default g c = no_poke c.args.self c.args.table.now _ _ c.requires _ c.find_cell.ensures _ _ c.in_default.is c.missing.ensures.0 c.missing.ensures.1
+returns-in_default g c = no_poke c.args.self c.args.table.now _ _ c.requires _ c.find_cell.ensures _ _ c.in_default.is refl c.missing.ensures

@@ -15,7 +15,7 @@ check_block-loop-init t c = (
   omega arith,
   refl,
   block_ready _ _ _ _ _ c.requires.read _ c.payload-count.ensures.0,
-  ap (λ z. block_walked (procedures_in c.args.self.procedure.program.image.now) c.args.self.procedure.types.now (array_count_in c.args.self.procedure.program.table.now) c.args.marks.now c.args.self.scope c.args.best z)
+  ap (λ z. block_walked (procedures_in c.args.self.words.image.now) c.args.self.words.types.now (array_count_in c.args.self.words.table.now) c.args.marks.now c.args.self.scope c.args.best z)
       (block_begins _ _ _ _ _ c.requires.read _ c.payload-count.ensures.0),
 )
 

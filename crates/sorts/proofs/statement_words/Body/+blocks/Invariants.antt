@@ -23,10 +23,10 @@ decreases-check_statement l = 3 * l.level + 2
 
 abbrev pub invariant-check_block-loop : goal.invariant-check_block-loop
 invariant-check_block-loop l =
-    let image = l.self.procedure.program.image.now in
-    let table = l.self.procedure.program.table.now in
-    let left = statements_at (l.count - l.counter) (l.level - 1) (params_in table) l.self.procedure.me image l.walked.next in
+    let image = l.self.words.image.now in
+    let table = l.self.words.table.now in
+    let left = statements_at (l.count - l.counter) (l.level - 1) (params_in table) l.self.words.me image l.walked.next in
     (l.counter ≤ l.count) × (l.marks ≡ l.initial.marks) × (ok left ≡ true)
-    × (block_walked (procedures_in image) l.self.procedure.types.now (array_count_in table) l.marks l.self.scope l.walked.best left
-    ≡ block_walked (procedures_in image) l.self.procedure.types.now (array_count_in table) l.initial.marks l.self.scope l.fn.best
-    (read_block l.level (params_in table) l.self.procedure.me image l.at))
+    × (block_walked (procedures_in image) l.self.words.types.now (array_count_in table) l.marks l.self.scope l.walked.best left
+    ≡ block_walked (procedures_in image) l.self.words.types.now (array_count_in table) l.initial.marks l.self.scope l.fn.best
+    (read_block l.level (params_in table) l.self.words.me image l.at))

@@ -13,7 +13,7 @@ pub count_block-loop-init : goal.count_block-loop-init
 count_block-loop-init t c = record {
   within = search rules;
   read = block_ready _ _ _ _ _ c.requires.0.read _ c.payload-count.ensures.0;
-  is_capped = c.requires.1;
+  is_capped = c.requires.2;
   same = block_begin _ _ _ _ _ _ _ _ c.requires.0.read c.payload-count.ensures.0;
 }
 
@@ -22,6 +22,7 @@ count_block-count_statement-c-requires t c = (
   search rules,
   (
     next_statement _ _ _ _ _ _ _ c.loop.invariant.read c.loop-test.true,
+    c.requires.1,
     c.loop.invariant.is_capped,
   ),
 )
@@ -43,48 +44,48 @@ count_block-returns t c =
 
 pub count_for-skip-to-requires : goal.count_for-skip-to-requires
 count_for-skip-to-requires t c =
-    skip_expression _ _ _ (read_bounds _ _ _ _ _ c.requires.0.read 3 (sym c.requires.2) refl).first.read
+    skip_expression _ _ _ (read_bounds _ _ _ _ _ c.requires.0.read 3 (sym c.requires.3) refl).first.read
 
 pub count_for-skip-block-requires : goal.count_for-skip-block-requires
 count_for-skip-block-requires t c =
-    skip_expression _ _ _ (to_fine c.args.self.callees.now c.args.before _ _ _ _ c.requires.0.read c.requires.2 _ c.skip-to.ensures).read
+    skip_expression _ _ _ (to_fine c.args.self.callees.now c.args.before _ _ _ _ c.requires.0.read c.requires.3 _ c.skip-to.ensures).read
 
 pub count_for-count_block-x-requires : goal.count_for-count_block-x-requires
-count_for-count_block-x-requires t c = (
-  search rules,
-  entered_fine c.args.before _ _ _ c.enter.ensures _ _ _ _
-      (body_fine c.args.self.callees.now c.args.before _ _ _ _ c.requires.0.read c.requires.2 _ c.skip-to.ensures _ c.skip-block.ensures),
-)
+count_for-count_block-x-requires t c =
+    let fine =
+    entered_fine c.args.before _ _ _ c.enter.ensures _ _ _ _
+    (body_fine c.args.self.callees.now c.args.before _ _ _ _ c.requires.0.read c.requires.3 _ c.skip-to.ensures _ c.skip-block.ensures) in
+    (search rules, (fine.0, c.requires.1, fine.1))
 
 pub count_for-returns : goal.count_for-returns
 count_for-returns t c =
-    count_for _ c.args.before _ _ _ _ c.requires.0.read c.requires.2 _ c.skip-to.ensures _ c.skip-block.ensures _ _ _ _ _
+    count_for _ c.args.before _ _ _ _ c.requires.0.read c.requires.3 _ c.skip-to.ensures _ c.skip-block.ensures _ _ _ _ _
     (c.is_some.ensures ∙ c.constant_at-low.ensures.constant) (c.is_some-2.ensures ∙ c.constant_at-high.ensures.constant)
     (c.unwrap_or-2.ensures ∙ c.constant_at-low.ensures.value) (c.unwrap_or.ensures ∙ c.constant_at-high.ensures.value) c.saturating_sub-count.ensures _
     (entered_counted c.args.before _ _ _ c.enter.ensures _ _ _ _ _ _ c.count_block-x.ensures) _ _ _
     c.repeated.ensures.0 c.sum.ensures.0 c.sum-2.ensures.0
 
 pub count_if-skip-first-requires : goal.count_if-skip-first-requires
-count_if-skip-first-requires t c = skip_expression _ _ _ (read_if _ _ _ _ _ c.requires.0.read 2 (sym c.requires.2) refl).read
+count_if-skip-first-requires t c = skip_expression _ _ _ (read_if _ _ _ _ _ c.requires.0.read 2 (sym c.requires.3) refl).read
 
 pub count_if-count_block-x-requires : goal.count_if-count_block-x-requires
-count_if-count_block-x-requires t c = (
-  search rules,
-  entered_fine c.args.before _ false _ c.enter.ensures _ _ _ _
-      (then_fine c.args.self.callees.now c.args.before _ _ _ _ c.requires.0.read c.requires.2 _ c.skip-first.ensures),
-)
+count_if-count_block-x-requires t c =
+    let fine =
+    entered_fine c.args.before _ false _ c.enter.ensures _ _ _ _
+    (then_fine c.args.self.callees.now c.args.before _ _ _ _ c.requires.0.read c.requires.3 _ c.skip-first.ensures) in
+    (search rules, (fine.0, c.requires.1, fine.1))
 
 pub count_if-count_block-y-requires : goal.count_if-count_block-y-requires
-count_if-count_block-y-requires t c = (
-  search rules,
-  next_fine c.args.self.callees.now _ _ _ _ c.count_block-x.result _ c.enter-2.ensures
-      (else_fine _ c.args.before _ _ _ _ c.requires.0.read c.requires.2 _ c.skip-first.ensures _
-      (entered_counted c.args.before _ false _ c.enter.ensures _ _ _ _ _ _ c.count_block-x.ensures)),
-)
+count_if-count_block-y-requires t c =
+    let fine =
+    next_fine c.args.self.callees.now _ _ _ _ c.count_block-x.result _ c.enter-2.ensures
+    (else_fine _ c.args.before _ _ _ _ c.requires.0.read c.requires.3 _ c.skip-first.ensures _
+    (entered_counted c.args.before _ false _ c.enter.ensures _ _ _ _ _ _ c.count_block-x.ensures)) in
+    (search rules, (fine.0, c.requires.1, fine.1))
 
 pub count_if-returns : goal.count_if-returns
 count_if-returns t c =
-    count_if _ c.args.before _ _ _ _ c.requires.0.read c.requires.2 _ c.skip-first.ensures _
+    count_if _ c.args.before _ _ _ _ c.requires.0.read c.requires.3 _ c.skip-first.ensures _
     (entered_counted c.args.before _ false _ c.enter.ensures _ _ _ _ _ _ c.count_block-x.ensures) _
     (next_counted _ _ _ _ _ c.count_block-x.result _ c.enter-2.ensures _ c.count_block-y.ensures) _ _ _
     c.max.ensures c.sum.ensures.0 c.sum-2.ensures.0

@@ -21,9 +21,9 @@ decreases-count_statement l = 3 * l.level + 1
 
 abbrev pub invariant-count_block-loop : goal.invariant-count_block-loop
 invariant-count_block-loop l =
-    let table = params_in l.self.procedure.program.table.now in
-    let me = l.self.procedure.me in
-    let image = l.self.procedure.program.image.now in
+    let table = params_in l.self.table.now in
+    let me = l.self.me in
+    let image = l.self.image.now in
     record {
       within : l.counter ≤ l.count;
       read : ok (statements_at (l.count - l.counter) (l.level - 1) table me image l.c.at) ≡ true;
