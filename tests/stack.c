@@ -4,8 +4,8 @@
  * The images nest as deep as the levels allow: ifs and fors around a statement, operators below it, and 32 procedures
  * that each call the one below from there. A comparison takes no image: it is measured with recordings of many lengths.
  * Prints a table of the largest need of each function, and 'N passed, M failed' as its last line, counted in bounds: one
- * fails where a need is over the bound that docs/STACK.md states. A run with another answer than its image or recording
- * is made for fails too.
+ * fails where the bound that docs/STACK.md states is not at least MORE percent above the need. A run with another answer
+ * than its image or recording is made for fails too.
  */
 #include <pthread.h>
 #include <stdbool.h>
@@ -259,7 +259,8 @@ static uint32_t called(const struct shape *s)
     return calls(s) ? PROCEDURES - 1 : 0;
 }
 
-/* a public array, whose cells are 0 and name themselves as an index, and a secret one */
+/* a public array, whose cells are 0 and name themselves as an index, and a secret one, long enough that every request takes
+   the large machine */
 static void make_image(struct image *image, const struct shape *s)
 {
     uint32_t chain = called(s) + 1;
@@ -267,7 +268,7 @@ static void make_image(struct image *image, const struct shape *s)
     image->count = 0;
     push(image, 0x10000200 | s->form << 16 | (chain + (s->longest ? 1 : 0)));
     push(image, 0x20000004);
-    push(image, 0x20010004);
+    push(image, 0x20010100);
     for (uint32_t i = 0; i < chain; i++)
         push_procedure(image, s, i);
     if (s->longest)
@@ -556,14 +557,18 @@ static void print_row(const char *title, enum function function, const struct la
     printf(" | %zu |\n", kept->bytes);
 }
 
+/* "at least 27% more than any image measured needed" (README.md) */
+#define MORE 27
+
 static void judge(const char *title, enum function function, const struct largest *kept, size_t bound)
 {
-    if (kept->bytes <= bound) {
+    if (kept->bytes * (100 + MORE) <= bound * 100) {
         passed++;
         return;
     }
     failed++;
-    printf("FAILED: %s, %s, needs %zu bytes, the bound is %zu\n", function_names[function], title, kept->bytes, bound);
+    printf("FAILED: %s, %s, needs %zu bytes, the bound of %zu is not at least %d%% above that\n",
+           function_names[function], title, kept->bytes, bound, MORE);
 }
 
 int main(void)

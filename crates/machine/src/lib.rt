@@ -30,12 +30,12 @@ impl<const N: usize> Machine<N> {
         requires { (count ≤ N) × (4 * count ≤ length cells.now) }
         ensures { (held result ≡ take count (words_of cells.now)) × (result.count ≡ count) }
     {
-        let mut first = [0u32; N];
-        words::read_words(cells, &mut first, count);
-        Machine {
-            cells: first,
+        let mut machine = Machine {
+            cells: [0; N],
             count,
-        }
+        };
+        words::read_words(cells, &mut machine.cells, count);
+        machine
     }
 
     // The machine's cells go back into the lent bytes; those behind them stay.
@@ -119,7 +119,8 @@ impl<const N: usize> Machine<N> {
         ensures { TurnedCall self.entry result trace.old trace.new (called_on (image_in program.entry.image.now) (held self.entry) call.entry.procedure
             (words_of call.entry.arguments.now) call.entry.budget (length (words_of trace.old))) }
     {
-        let mut cells = self.spread();
+        let mut cells = [0u32; CELLS];
+        self.spread(&mut cells);
         let answer = call_on(&mut cells, program, ends, call, trace);
         match answer {
             Answer::Done(..) => Turn {
@@ -145,7 +146,8 @@ impl<const N: usize> Machine<N> {
         ensures { TurnedPreview self.entry result trace.old trace.new (called_on (image_in program.entry.image.now) (held self.entry) call.entry.procedure
             (words_of call.entry.arguments.now) call.entry.budget (length (words_of trace.old))) }
     {
-        let mut copy = self.spread();
+        let mut copy = [0u32; CELLS];
+        self.spread(&mut copy);
         let answer = call_on(&mut copy, program, ends, call, trace);
         Turn {
             machine: self, // the copy is dropped
@@ -153,14 +155,12 @@ impl<const N: usize> Machine<N> {
         }
     }
 
-    // The array that a run works in, with the machine's cells at its front.
-    fn spread(&self) -> [u32; CELLS]
+    // The machine's cells go to the front of the array that a run works in. (It is lent: an array that is answered is copied.)
+    fn spread(&self, cells: &mut [u32; CELLS])
         requires { N ≤ 1024 }
-        ensures { (length result ≡ 1024) × (take self.now.count result ≡ held self.now) }
+        ensures { take self.now.count cells.new ≡ held self.now }
     {
-        let mut cells = [0u32; CELLS];
         cells[..N].copy_from_slice(&self.cells);
-        cells
     }
 
     // The machine whose cells are at the front of the array that a run has worked in.

@@ -26,7 +26,7 @@ use Rattle.checker.specs.Left.{ends_left}
 use Rattle.machine.specs.declared.machines.Machine.{Machine}
 use Rattle.machine.specs.declared.machines.Turn.{Turn}
 use Rattle.machine.specs.Turns.{held, Kept, given_back, Turned}
-use Rattle.machine.specs.Serving.{Serves, TurnedCall, TurnedPreview}
+use Rattle.machine.specs.Serving.{Serves, TurnedCall}
 use Rattle.std.proofs.Common.{Result, Ok, Err}
 use Rattle.definitions.specs.declared.Fault.{Fault}
 use Rattle.ready.specs.Prepared.{readied, readied_not, Prepared}
@@ -116,6 +116,12 @@ module _ {N : ℕ} (cells : List ℕ) (bytes : Bytes cells) (own : ℕ) (enough 
         let g : held t.machine ≡ s.1 = ap (λ (x : Served). x.1) gives in
         rw (own_back, d, g)
 
+    pub poked : (table : List ℕ) (a i v : ℕ) → ◌≡◌ {A = Served} (t.answer, held t.machine) (poke_on (arrays_in table) (held m) a i v)
+        → (r : Answer) → r ≡ t.answer → (r, after) ≡ afterwards cells own (poke_on (arrays_in table) (take own (words_of cells)) a i v)
+    poked table a i v gives r d =
+        given_back_lem (poke_on (arrays_in table) (held m) a i v) gives r d
+        ∙ ap (λ (x : List ℕ). afterwards cells own (poke_on (arrays_in table) x a i v)) h
+
 module _ {N : ℕ} (image cells table : List ℕ) (bytes : Bytes cells) (own : ℕ) (m : Machine N) (h : held m ≡ take own (words_of cells)) (c : m.count ≡ own)
     (t : Turn N) (r : Answer) (after : List ℕ) (a : r ≡ t.answer) (e : after ≡ given_back t.answer t.machine cells) where
   cleared : 4 * own ≤ length cells → Turned m t (clear_on m.count) → (r, after) ≡ afterwards cells own (clear_on own)
@@ -130,15 +136,15 @@ module _ {N : ℕ} (image cells table : List ℕ) (bytes : Bytes cells) (own : �
     pub clear_done : Turned m t (clear_on m.count) → (r, after) ≡ clear_bytes image cells
     clear_done turned = cleared o.enough turned ∙ sym (clear_ready cells bytes image o.tree own o.all o.enough o.is_ready)
 
-    pub poke_done : (b i v : ℕ) → Turned m t (poke_on (arrays_in table) (held m) b i v) → (r, after) ≡ poke_bytes image cells b i v
-    poke_done b i v turned =
-        given_back_lem cells bytes own o.enough m h c t turned.kept after e (poke_on (arrays_in table) (held m) b i v) turned.gives r a
-        ∙ (let s = o.arrays in rw (h, s)
-        (sym (poke_ready cells bytes image o.tree own o.all o.enough o.is_ready b i v)))
+-- a poke and a peek, from what they do on the image's own cells
+module _ (image cells table : List ℕ) (bytes : Bytes cells) (own : ℕ) (o : Own image cells table (ready_to_serve (whole_words image) (words_of image)) own)
+    (a i : ℕ) where
+  pub poke_done : (v : ℕ) (r : Answer) (after : List ℕ) → (r, after) ≡ afterwards cells own (poke_on (arrays_in table) (take own (words_of cells)) a i v)
+      → (r, after) ≡ poke_bytes image cells a i v
+  poke_done v r after e =
+      e ∙ (let s = o.arrays in rw s (sym (poke_ready cells bytes image o.tree own o.all o.enough o.is_ready a i v)))
 
--- nothing is written: the cells stand where they stood
-module _ {N : ℕ} (image cells table : List ℕ) (bytes : Bytes cells) (own : ℕ) (m : Machine N) (h : held m ≡ take own (words_of cells))
-    (o : Own image cells table (ready_to_serve (whole_words image) (words_of image)) own) (a i : ℕ) where
+  -- nothing is written: the cells stand where they stood
   peeked : (peek_on o.tree.arrays (take own (words_of cells)) a i).1 ≡ take own (words_of cells)
   unfolding peek_on
   peeked = go (has_cell_in o.tree.arrays a i)
@@ -149,10 +155,9 @@ module _ {N : ℕ} (image cells table : List ℕ) (bytes : Bytes cells) (own : �
       go true = refl
       go false = refl
 
-  pub peek_done : (t : Turn N) → Turned m t (peek_on (arrays_in table) (held m) a i) → (t.answer, cells) ≡ peek_bytes image cells a i
-  peek_done t turned =
-      let d : t.answer ≡ (peek_on o.tree.arrays (take own (words_of cells)) a i).0 =
-      ap (λ (x : Served). x.0) turned.gives ∙ (let s = o.arrays in rw (h, s)) in
+  pub peek_done : (r : Answer) → r ≡ (peek_on (arrays_in table) (take own (words_of cells)) a i).0 → (r, cells) ≡ peek_bytes image cells a i
+  peek_done r e =
+      let d : r ≡ (peek_on o.tree.arrays (take own (words_of cells)) a i).0 = e ∙ (let s = o.arrays in rw s) in
       rw (d, peek_ready cells bytes image o.tree own o.all o.enough o.is_ready a i, peeked, front_back cells own bytes o.enough)
 
 -- ---- a call and a preview
@@ -214,10 +219,12 @@ module _ (image cells words words' table ends : List ℕ) (bytes : Bytes cells) 
       (called_on (image_in (take (length image / 4) words')) (take own (words_of cells)) g (words_of arguments) budget (length (words_of before)))
       (ap (λ (i : Image). called_on i (take own (words_of cells)) g (words_of arguments) budget (length (words_of before))) same))
 
-  pub preview_done : {N : ℕ} (m : Machine N) → held m ≡ take own (words_of cells) → (t : Turn N) (before trace : List ℕ) (g : ℕ) (arguments : List ℕ) (budget : ℕ)
-      → TurnedPreview m t before trace (called_on (image_in (take (length image / 4) words')) (held m) g (words_of arguments) budget (length (words_of before)))
-      → (t.answer, cells, trace) ≡ preview_bytes image cells g arguments budget before
-  preview_done m h t before trace g arguments budget turned =
+  pub preview_done : (answer : Answer) (before trace : List ℕ) (g : ℕ) (arguments : List ℕ) (budget : ℕ)
+      → answer ≡ (called_on (image_in (take (length image / 4) words')) (take own (words_of cells)) g (words_of arguments) budget (length (words_of before))).0
+      → trace
+      ≡ lent before (called_on (image_in (take (length image / 4) words')) (take own (words_of cells)) g (words_of arguments) budget (length (words_of before))).2
+      → (answer, cells, trace) ≡ preview_bytes image cells g arguments budget before
+  preview_done answer before trace g arguments budget d t =
       let r : Called = called_on (image_in (take (length image / 4) words')) (take own (words_of cells)) g (words_of arguments) budget (length (words_of before)) in
-      previewed image cells g arguments budget before bytes t.answer (bytes_of r.1 ++ drop (4 * own) cells) trace
-      (call_done t.answer (bytes_of r.1 ++ drop (4 * own) cells) before trace g arguments budget (rw (turned.answer, turned.trace, h)))
+      previewed image cells g arguments budget before bytes answer (bytes_of r.1 ++ drop (4 * own) cells) trace
+      (call_done answer (bytes_of r.1 ++ drop (4 * own) cells) before trace g arguments budget (rw (d, t)))

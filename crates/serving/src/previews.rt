@@ -1,13 +1,59 @@
 // A preview: the machine that a call would run on is made from the lent cells, and nothing of it goes back there.
-ghost use Rattle.std.specs.Prelude.{◌≡◌, ◌/◌, ◌≤◌, min, length, replicate};
+ghost use Rattle.std.specs.Prelude.{◌≡◌, ◌/◌, ◌*◌, ◌≤◌, min, length, take, replicate};
+ghost use Rattle.definitions.specs.Bytes.{words_of, lent};
+ghost use Rattle.definitions.specs.Requests.{called_on};
 ghost use Rattle.definitions.specs.Host.{preview_bytes};
+ghost use Rattle.laws.specs.ImageIn.{image_in};
+ghost use Rattle.machine.specs.Serving.{Serves};
 
 use definitions::Answer;
-use machine::{CELLS, Call, Machine};
+use machine::{CELLS, Call, FEW, Machine};
 use ready::prepare_to_serve;
 use tables::SIZE;
 use tables::programs::Program;
 use words::images::{ENOUGH, LONGEST, SHORT, SMALL};
+
+// On a machine of at most N cells. It and the copy that the run works on stand in a frame of their own, which the check of the image does not need
+// beside its own.
+#[inline(never)]
+fn preview_machine<const N: usize>(
+    program: Program<'_>,
+    ends: &[u16],
+    cells: &[u8],
+    own: usize,
+    request: Call<'_>,
+    trace: &mut [u8],
+) -> Answer
+    requires { Serves program.image.now program.table.now ends.now own × (own ≤ N) × (N ≤ 1024) × (4 * own ≤ length cells.now) }
+    ensures answer { result ≡ (called_on (image_in program.entry.image.now) (take own (words_of cells.now)) request.entry.procedure
+        (words_of request.entry.arguments.now) request.entry.budget (length (words_of trace.old))).0 }
+    ensures entries { trace.new ≡ lent trace.old (called_on (image_in program.entry.image.now) (take own (words_of cells.now)) request.entry.procedure
+        (words_of request.entry.arguments.now) request.entry.budget (length (words_of trace.old))).2 }
+{
+    let machine = Machine::<N>::lent(cells, own);
+    machine.preview(program, ends, request, trace).answer
+}
+
+// On an image that is ready, with `own` cells.
+fn preview_cells(
+    program: Program<'_>,
+    ends: &[u16],
+    cells: &[u8],
+    own: usize,
+    request: Call<'_>,
+    trace: &mut [u8],
+) -> Answer
+    requires { Serves program.image.now program.table.now ends.now own × (own ≤ 1024) × (4 * own ≤ length cells.now) }
+    ensures answer { result ≡ (called_on (image_in program.entry.image.now) (take own (words_of cells.now)) request.entry.procedure
+        (words_of request.entry.arguments.now) request.entry.budget (length (words_of trace.old))).0 }
+    ensures entries { trace.new ≡ lent trace.old (called_on (image_in program.entry.image.now) (take own (words_of cells.now)) request.entry.procedure
+        (words_of request.entry.arguments.now) request.entry.budget (length (words_of trace.old))).2 }
+{
+    if own <= FEW {
+        return preview_machine::<FEW>(program, ends, cells, own, request, trace);
+    }
+    preview_machine::<CELLS>(program, ends, cells, own, request, trace)
+}
 
 // Working arrays are lent: for the image's words, and for the places where its blocks end.
 fn preview_with(
@@ -29,8 +75,7 @@ fn preview_with(
                 image: &words[..image.len() / 4],
                 table: &table,
             };
-            let machine = Machine::<CELLS>::lent(cells, own);
-            machine.preview(program, ends, request, trace).answer
+            preview_cells(program, ends, cells, own, request, trace)
         }
     }
 }

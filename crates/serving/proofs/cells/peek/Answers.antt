@@ -12,11 +12,8 @@ own : (c : In-Ok)
     → Own c.args.image.now c.args.cells.now c.ready_to_serve.new.table (ready_to_serve (whole_words c.args.image.now) (words_of c.args.image.now)) c.in-Ok.own
 own c = serve_own c.args.image.now c.args.cells.now _ _ _ c.in-Ok.is c.ready_to_serve.ensures.0 c.ready_to_serve.ensures.1
 
-pub lent-requires : goal.lent-requires
-lent-requires c = (omega arith, ((own c).few, (own c).enough))
-
-pub peek-requires : goal.peek-requires
-peek-requires c = let o = own (goal.at.peek-requires c).In-Ok in (omega arith, (omega arith, rw c.lent.ensures.1 o.fits))
+pub peek_cells-requires : goal.peek_cells-requires
+peek_cells-requires c = let o = own (goal.at.peek_cells-requires c).In-Ok in (o.fits, o.few, o.enough)
 
 pub returns-in-Err : goal.returns-in-Err
 returns-in-Err c =
@@ -24,5 +21,5 @@ returns-in-Err c =
 
 pub returns-in-Ok : goal.returns-in-Ok
 returns-in-Ok c =
-    peek_done c.args.image.now c.args.cells.now _ (λ i. omega (arith, c.type_inv.cells i)) _ _ c.lent.ensures.0 (own (goal.at.returns-in-Ok c).In-Ok)
-    c.args.a c.args.i _ c.peek.ensures
+    peek_done c.args.image.now c.args.cells.now _ (λ i. omega (arith, c.type_inv.cells i)) _ (own (goal.at.returns-in-Ok c).In-Ok) c.args.a c.args.i _
+    c.peek_cells.ensures

@@ -22,15 +22,9 @@ pub invariant_of-program : goal.invariant_of-program
 invariant_of-program c =
     record { known = bound_known c.args.image.now c.args.cells.now _ _ _ _ (λ i. omega (arith, c.type_inv.cells i)) _ c.prepare_to_serve.ensures _ c.in-Ok.is }
 
-pub lent-machine-requires : goal.lent-machine-requires
-lent-machine-requires c =
-    let s = call_serves c.args.image.now c.args.cells.now _ _ _ _ (λ i. omega (arith, c.type_inv.cells i)) _ c.prepare_to_serve.ensures _ c.in-Ok.is in
-    (omega arith, (s.1, s.2))
-
-pub preview-requires : goal.preview-requires
-preview-requires c =
-    let s = call_serves c.args.image.now c.args.cells.now _ _ _ _ (λ i. omega (arith, c.type_inv.cells i)) _ c.prepare_to_serve.ensures _ c.in-Ok.is in
-    (omega arith, (omega arith, (rw c.lent-machine.ensures.1 s.0, omega arith)))
+pub preview_cells-requires : goal.preview_cells-requires
+preview_cells-requires c =
+    call_serves c.args.image.now c.args.cells.now _ _ _ _ (λ i. omega (arith, c.type_inv.cells i)) _ c.prepare_to_serve.ensures _ c.in-Ok.is
 
 pub returns-in-Err : goal.returns-in-Err
 returns-in-Err c =
@@ -39,5 +33,5 @@ returns-in-Err c =
 
 pub returns-in-Ok : goal.returns-in-Ok
 returns-in-Ok c =
-    preview_done c.args.image.now c.args.cells.now _ _ _ _ (λ i. omega (arith, c.type_inv.cells i)) _ c.prepare_to_serve.ensures _ c.in-Ok.is c.lent-machine.result
-    c.lent-machine.ensures.0 _ c.args.trace.now _ c.args.request.procedure c.args.request.arguments.now c.args.request.budget c.preview.ensures
+    preview_done c.args.image.now c.args.cells.now _ _ _ _ (λ i. omega (arith, c.type_inv.cells i)) _ c.prepare_to_serve.ensures _ c.in-Ok.is _ c.args.trace.now _
+    c.args.request.procedure c.args.request.arguments.now c.args.request.budget c.preview_cells.ensures.answer c.preview_cells.ensures.entries
